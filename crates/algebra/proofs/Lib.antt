@@ -1,0 +1,4 @@
+pub mod Elements
+pub mod RingFacts
+pub mod Inverses
+pub mod Modulus

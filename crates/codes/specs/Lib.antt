@@ -1,0 +1,5 @@
+pub mod Code
+pub mod Sums
+pub mod Cells
+pub mod Codeword
+pub mod Verdicts

@@ -1,0 +1,9 @@
+pub mod Modulo
+pub mod Causes
+pub mod Prime
+pub mod CarrylessProduct
+pub mod LongDivision
+pub mod PolynomialLaws
+pub mod Irreducible
+pub mod BinaryArithmetic
+pub mod Binary

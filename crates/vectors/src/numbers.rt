@@ -1,0 +1,33 @@
+// Numbers and cells, read from a case and written to its answer.
+use codes::Cell;
+use std::alloc::Global;
+use std::error::AnyError;
+use std::num::ParseIntError;
+
+pub fn read_numbers(heap: Global, text: &str) -> Result<Vec<u32>, AnyError> {
+    let mut numbers = Vec::new(heap);
+    for word in text.split_whitespace() {
+        numbers.push(word.parse::<u32>()?)?;
+    }
+    Ok(numbers)
+}
+
+// A blank is written '?'.
+pub fn read_cells(heap: Global, text: &str) -> Result<Vec<Cell>, AnyError> {
+    let mut cells = Vec::new(heap);
+    for word in text.split_whitespace() {
+        if word == "?" {
+            cells.push(Cell::blank())?;
+        } else {
+            cells.push(Cell::noted(word.parse::<u32>()?))?;
+        }
+    }
+    Ok(cells)
+}
+
+pub fn write_numbers(text: &mut String, numbers: &[u32]) -> Result<(), AnyError> {
+    for number in numbers {
+        write!(text, " {number}")?;
+    }
+    Ok(())
+}

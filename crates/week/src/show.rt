@@ -1,0 +1,49 @@
+// How an inspection and a refused line read on paper.
+use crate::inspect::CELLS;
+use crate::inspect::Inspection;
+use crate::inspect::LETTERS;
+use crate::inspect::PRIME;
+use crate::inspect::ROWS;
+use codes::Verdict;
+use std::alloc::AllocError;
+use std::alloc::Global;
+use std::fmt;
+use tags::LineRefusal;
+use tags::LineRefusalDisplay;
+
+pub impl fmt::Display for Inspection as InspectionDisplay {
+    fn fmt<W: fmt::Write>(&self, f: &mut fmt::Formatter<W>) -> fmt::Result {
+        writeln!(f, "card: inked, modulo {PRIME}, {LETTERS} letters, {CELLS} cells, {ROWS} rows")?;
+        write!(f, "cells:")?;
+        for cell in &self.cells {
+            match cell.letter {
+                Some(letter) => write!(f, " {letter}")?,
+                None => write!(f, " ?")?,
+            }
+        }
+        write!(f, "\nsums:")?;
+        for sum in &self.sums {
+            write!(f, " {sum}")?;
+        }
+        match self.verdict {
+            Verdict::Codeword => write!(f, "\nthe line is a codeword"),
+            Verdict::Unfinished { blanks } => write!(f, "\nthe line is unfinished: {blanks} blank"),
+            Verdict::Damaged => write!(f, "\nthe line is damaged"),
+        }
+    }
+}
+
+pub fn refusal_text(heap: Global, line: &str, refusal: LineRefusal) -> Result<String, AllocError> {
+    let number = refusal.number();
+    match refusal {
+        LineRefusal::WrongLength => {
+            let count = line.chars().count();
+            format!(heap, "{number} {refusal}: a line has {CELLS} marks, and this one has {count}")
+        }
+        LineRefusal::UnmarkedAlphabet => format!(heap, "{number} {refusal}: {LETTERS} letters have no marks"),
+        LineRefusal::BadMark { place } => {
+            let cell = place.saturating_add(1);
+            format!(heap, "{number} {refusal}: the mark of cell {cell} is no letter and no '?'")
+        }
+    }
+}
