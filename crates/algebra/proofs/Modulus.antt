@@ -8,7 +8,7 @@ use Rattle.std.proofs.shelf.Tests.{cases-eq, cases-lt}
 use Rattle.algebra.specs.Meaning.{Arithmetic, arithmetic-of, with-inverses}
 use Rattle.algebra.specs.Limits.{largest-size}
 use Rattle.algebra.specs.Laws.{Total, RingLaws, InverseLaws, Laws}
-use Rattle.algebra.proofs.Elements.{on-elements-inside, on-elements-outside, on-elements-below}
+use Rattle.algebra.proofs.OnElements.{on-elements-inside, on-elements-outside, on-elements-below}
 use Rattle.algebra.proofs.RingFacts.{zero-element, plus-cancel, plus-times, zero-times, one-times, zero-plus}
 use Rattle.algebra.proofs.Inverses.{HasInverses, inverse-laws}
 

@@ -3,3 +3,7 @@ pub mod Meaning
 pub mod Laws
 pub mod Power
 pub mod Alphabet
+pub mod Places
+pub mod Polynomial
+pub mod Theorems
+pub mod ErrorLocators

@@ -9,7 +9,7 @@ use lib.Pow.{pow-lt, pow-pos}
 use Rattle.std.proofs.shelf.Tests.{cases-lt}
 use Rattle.algebra.specs.Meaning.{Arithmetic, on-elements}
 use Rattle.algebra.specs.Alphabet.{Alphabet}
-use Rattle.algebra.proofs.Elements.{on-elements-inside, on-elements-below}
+use Rattle.algebra.proofs.OnElements.{on-elements-inside, on-elements-below}
 use Rattle.fields.specs.CarrylessProduct.{_⊗_}
 use Rattle.fields.specs.LongDivision.{Degree, remainder}
 use Rattle.fields.specs.BinaryArithmetic.{modulo-polynomial}

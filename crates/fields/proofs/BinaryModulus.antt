@@ -8,7 +8,7 @@ use lib.Bits.{bitXor, xor-assoc, xor-comm, xor-self, xor-zero-r, xor-lt}
 use lib.Pow.{pow-mono}
 use Rattle.std.specs.declared.option.Option.the-variants.{Some}
 use Rattle.algebra.proofs.Modulus.{Modulus, modulus-total, modulus-ring, modulus-laws}
-use Rattle.algebra.proofs.Elements.{on-elements-inside}
+use Rattle.algebra.proofs.OnElements.{on-elements-inside}
 use Rattle.algebra.proofs.Inverses.{inverse-found}
 use Rattle.algebra.specs.Laws.{Laws}
 use Rattle.algebra.specs.Meaning.{Arithmetic, inverse-in, with-inverses}

@@ -10,7 +10,7 @@ use Rattle.std.specs.declared.option.Option.the-variants.{Some}
 use Rattle.algebra.specs.Meaning.{with-inverses, inverse-in}
 use Rattle.algebra.specs.Alphabet.{Alphabet}
 use Rattle.algebra.specs.Laws.{Total, RingLaws, Laws}
-use Rattle.algebra.proofs.Elements.{on-elements-inside}
+use Rattle.algebra.proofs.OnElements.{on-elements-inside}
 use Rattle.algebra.proofs.Inverses.{inverse-found}
 use Rattle.algebra.proofs.Modulus.{Modulus, modulus-total, modulus-ring, modulus-laws}
 use Rattle.fields.specs.Modulo.{Prime, Listed, modulo}
