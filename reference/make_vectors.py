@@ -10,9 +10,11 @@ import random
 from pathlib import Path
 
 from code import MARKS, line, sums
-from field import PRIMES, Prime
+from field import LARGEST_MODULUS, PRIMES, Binary, Prime, irreducible
 
 FOLDER = Path(__file__).resolve().parent.parent / "crates" / "vectors"
+MODULI = [f for f in range(LARGEST_MODULUS + 1) if irreducible(f)]
+SOME_FIELDS = [Prime(p) for p in PRIMES] + [Binary(f) for f in (2, 3, 7, 11, 13, 19, 37, 67, 131, 283, 285)]
 cases, answers = [], []
 
 
@@ -25,49 +27,82 @@ def words(numbers):
     return " ".join("?" if x is None else str(x) for x in numbers)
 
 
-def primes():
-    for n in list(range(0, 60)) + [91, 250, 251, 252, 253, 255, 256, 257, 1009, 65521, 4294967295]:
-        if n in PRIMES:
-            case(f"prime {n}", f"prime {n} taken")
-        else:
-            case(f"prime {n}", f"prime {n} refused 11 no prime")
+def named(field):
+    return f"{field.kind} {field.origin}"
+
+
+def fields():
+    for n in list(range(60)) + [91, 250, 251, 252, 253, 255, 256, 257, 1009, 65521, 4294967295]:
+        case(f"field 1 {n}", f"taken, {n} elements" if n in PRIMES else "refused 11 no prime")
+    for n in list(range(LARGEST_MODULUS + 1)) + [512, 515, 517, 1033, 4294967295]:
+        case(f"field 2 {n}", f"taken, {Binary(n).size} elements" if n in MODULI else "refused 12 bad modulus")
+
+
+def arithmetic_case(field, a, b):
+    case(f"arithmetic {named(field)} {a} {b}", f"{field.add(a, b)} {field.sub(a, b)} {field.mul(a, b)}")
+
+
+def inverses_case(field):
+    inverses = [field.invert(a) for a in range(field.size + 1)]
+    case(f"inverses {named(field)}", "inverses " + " ".join("-" if b is None else str(b) for b in inverses))
 
 
 def arithmetic(rng):
-    for p in PRIMES:
-        field = Prime(p)
-        pairs = [(0, 0), (p - 1, p - 1), (p, 0), (0, p), (p, p), (4294967295, 1), (1, 4294967295)]
-        pairs += [(rng.randrange(p), rng.randrange(p)) for _ in range(12)]
+    for field in SOME_FIELDS:
+        q = field.size
+        pairs = [(0, 0), (q - 1, q - 1), (q, 0), (0, q), (q, q), (4294967295, 1), (1, 4294967295)]
+        pairs += [(rng.randrange(q), rng.randrange(q)) for _ in range(12)]
         for a, b in pairs:
-            case(f"arithmetic {p} {a} {b}", f"arithmetic {p} {a} {b}: {field.add(a, b)} {field.sub(a, b)} {field.mul(a, b)}")
-        inverses = [field.invert(a) for a in range(p + 1)]
-        case(f"inverses {p}", f"inverses {p}: " + " ".join("-" if b is None else str(b) for b in inverses))
+            arithmetic_case(field, a, b)
+        inverses_case(field)
+        if field.size <= 64:
+            case(f"admits {named(field)}", "admits " + words(n for n in range(q + 2) if field.admits(n)))
+    for modulus in MODULI:
+        field = Binary(modulus)
+        arithmetic_case(field, rng.randrange(field.size), rng.randrange(field.size))
+        if field.size <= 64:
+            inverses_case(field)
+    # two products and an inverse that the Advanced Encryption Standard prints
+    for a, b in ((0x57, 0x83), (0x57, 0x13), (0x53, 0xCA)):
+        arithmetic_case(Binary(283), a, b)
 
 
-def sums_case(p, rows, locators, multipliers, cells):
-    question = f"sums {p} {rows};{words(locators)};{words(multipliers)};{words(cells)}"
+def sums_case(field, rows, locators, multipliers, cells):
+    question = f"sums {named(field)} {rows};{words(locators)};{words(multipliers)};{words(cells)}"
     if not len(locators) == len(multipliers) == len(cells):
-        case(question, "sums refused 25")
+        case(question, "refused 25 wrong length")
     else:
-        case(question, " ".join(["sums"] + [str(s) for s in sums(Prime(p), rows, locators, multipliers, cells)]))
+        case(question, " ".join(["sums"] + [str(s) for s in sums(field, rows, locators, multipliers, cells)]))
+
+
+# the example that the standard of the QR code works out for version 1-M: sixteen data bytes and ten check bytes
+QR_WORD = bytes.fromhex("10200C566180EC11EC11EC11EC11EC11A524D4C1ED36C7872C55")
+
+
+def qr_locators():
+    field, powers = Binary(285), [1]
+    for _ in range(25):
+        powers.append(field.mul(powers[-1], 2))
+    return powers[::-1]
 
 
 def all_sums(rng):
     # a worked example, and the check digit of a book number: ten digits weighted 10 down to 1 modulo 11
-    sums_case(7, 4, range(6), [1] * 6, [1, 5, 3, 4, 0, 6])
-    sums_case(11, 1, range(10), range(10, 0, -1), [0, 3, 0, 6, 4, 0, 6, 1, 5, 2])
-    sums_case(7, 3, [], [], [])
-    sums_case(7, 3, [1, 2], [1], [1, 2])
-    sums_case(7, 3, [1, 2], [1, 1], [1, 2, 3])
-    for p in PRIMES:
-        for _ in range(8):
-            n = rng.randrange(1, min(p, 40) + 1)
+    sums_case(Prime(7), 4, range(6), [1] * 6, [1, 5, 3, 4, 0, 6])
+    sums_case(Prime(11), 1, range(10), range(10, 0, -1), [0, 3, 0, 6, 4, 0, 6, 1, 5, 2])
+    sums_case(Binary(285), 10, qr_locators(), [1] * 26, list(QR_WORD))
+    sums_case(Prime(7), 3, [], [], [])
+    sums_case(Prime(7), 3, [1, 2], [1], [1, 2])
+    sums_case(Prime(7), 3, [1, 2], [1, 1], [1, 2, 3])
+    for field in SOME_FIELDS:
+        for _ in range(6):
+            n = rng.randrange(1, min(field.size, 40) + 1)
             rows = rng.randrange(0, 9)
-            beyond = p + (2 if rng.random() < 0.2 else 0)
+            beyond = field.size + (2 if rng.random() < 0.2 else 0)
             locators = [rng.randrange(beyond) for _ in range(n)]
             multipliers = [rng.randrange(beyond) for _ in range(n)]
             cells = [None if rng.random() < 0.2 else rng.randrange(beyond) for _ in range(n)]
-            sums_case(p, rows, locators, multipliers, cells)
+            sums_case(field, rows, locators, multipliers, cells)
 
 
 def line_case(letters, cells, text):
@@ -75,9 +110,9 @@ def line_case(letters, cells, text):
     if isinstance(got, list):
         answer = " ".join(["line"] + ([words(got)] if got else []))
     elif got[1] is None:
-        answer = f"line refused {got[0]}"
+        answer = "refused 25 wrong length" if got[0] == 25 else "refused 28 bad mark"
     else:
-        answer = f"line refused {got[0]} at {got[1]}"
+        answer = f"refused 28 bad mark at {got[1]}"
     case(f"line {letters} {cells};{text}", answer)
 
 
@@ -102,12 +137,13 @@ def lines(rng):
 
 def main():
     rng = random.Random(37)
-    primes()
+    fields()
     arithmetic(rng)
     all_sums(rng)
     lines(rng)
     (FOLDER / "stdin").write_text("\n".join(cases) + "\n", encoding="utf-8")
-    (FOLDER / "stdout").write_text("\n".join(answers) + "\n", encoding="utf-8")
+    proved = ["proved: [5, 4, 0, 5] [0]"]
+    (FOLDER / "stdout").write_text("\n".join(proved + answers) + "\n", encoding="utf-8")
 
 
 main()

@@ -1,72 +1,87 @@
 // The cases and their answers.
 use crate::numbers::read_cells;
 use crate::numbers::read_numbers;
+use crate::numbers::write_cells;
 use crate::numbers::write_numbers;
 use codes::Cell;
 use codes::CodeRef;
+use codes::SumsRefusalDisplay;
 use codes::sums;
-use fields::Field;
+use fields::BinaryField;
+use fields::BinaryFieldField;
+use fields::BinaryFieldLetteredField;
 use fields::FieldCauseDisplay;
+use fields::LetteredField;
 use fields::PrimeField;
 use fields::PrimeFieldField;
+use fields::PrimeFieldLetteredField;
 use std::alloc::Global;
 use std::error::AnyError;
 use tags::LineRefusal;
+use tags::LineRefusalDisplay;
 use tags::read_line;
 
-// A case is a word and its argument.
+// A case is a word and its argument. All but a line begin with a field: its kind, and what it is made from.
 pub fn answer(heap: Global, line: &str) -> Result<String, AnyError> {
-    let Some((kind, rest)) = line.split_once(' ') else {
+    let Some((word, argument)) = line.split_once(' ') else {
         return Err("a case has a word and its argument".into());
     };
-    match kind {
-        "prime" => prime(heap, rest),
-        "arithmetic" => arithmetic(heap, rest),
-        "inverses" => inverses(heap, rest),
-        "sums" => sums_of(heap, rest),
-        "line" => line_of(heap, rest),
+    if word == "line" {
+        return line_case(heap, argument);
+    }
+    let (head, rest) = argument.split_once(';').unwrap_or((argument, ""));
+    let numbers = read_numbers(heap, head)?;
+    let [kind, origin, numbers @ ..] = numbers.as_slice() else {
+        return Err("a field has a kind and an origin".into());
+    };
+    if *kind == PrimeField::KIND {
+        match PrimeField::new(*origin) {
+            Ok(field) => field_case(heap, word, field, numbers, rest),
+            Err(cause) => refused(heap, cause.number(), cause),
+        }
+    } else {
+        match BinaryField::new(*origin) {
+            Ok(field) => field_case(heap, word, field, numbers, rest),
+            Err(cause) => refused(heap, cause.number(), cause),
+        }
+    }
+}
+
+fn refused(heap: Global, number: u32, cause: impl std::fmt::Display + Drop) -> Result<String, AnyError> {
+    Ok(format!(heap, "refused {number} {cause}")?)
+}
+
+fn field_case<F: LetteredField + Drop>(heap: Global, word: &str, field: F, numbers: &[u32], rest: &str) -> Result<String, AnyError> {
+    match word {
+        "field" => taken(heap, &field),
+        "arithmetic" => arithmetic(heap, &field, numbers),
+        "inverses" => inverses(heap, &field),
+        "admits" => admits(heap, &field),
+        "sums" => sums_case(heap, &field, numbers, rest),
         _ => Err("there is no such case".into()),
     }
 }
 
-// Whether a number is taken for a prime field.
-fn prime(heap: Global, text: &str) -> Result<String, AnyError> {
-    match PrimeField::new(text.parse::<u32>()?) {
-        Ok(field) => {
-            let prime = field.prime();
-            Ok(format!(heap, "prime {prime} taken")?)
-        }
-        Err(cause) => {
-            let number = cause.number();
-            Ok(format!(heap, "prime {text} refused {number} {cause}")?)
-        }
-    }
+fn taken<F: LetteredField>(heap: Global, field: &F) -> Result<String, AnyError> {
+    let size = field.size();
+    Ok(format!(heap, "taken, {size} elements")?)
 }
 
-// p a b: the sum, the difference and the product of a and b modulo p.
-fn arithmetic(heap: Global, text: &str) -> Result<String, AnyError> {
-    let numbers = read_numbers(heap, text)?;
-    let [p, a, b] = numbers.as_slice() else {
-        return Err("arithmetic takes three numbers".into());
+// a b: the sum, the difference and the product.
+fn arithmetic<F: LetteredField>(heap: Global, field: &F, numbers: &[u32]) -> Result<String, AnyError> {
+    let [a, b] = numbers else {
+        return Err("arithmetic takes two numbers".into());
     };
-    match PrimeField::new(*p) {
-        Ok(field) => {
-            let sum = field.add(*a, *b);
-            let difference = field.sub(*a, *b);
-            let product = field.mul(*a, *b);
-            Ok(format!(heap, "arithmetic {text}: {sum} {difference} {product}")?)
-        }
-        Err(_) => Err("that is no prime".into()),
-    }
+    let sum = field.add(*a, *b);
+    let difference = field.sub(*a, *b);
+    let product = field.mul(*a, *b);
+    Ok(format!(heap, "{sum} {difference} {product}")?)
 }
 
-// The inverses of 0 to p modulo p, '-' where there is none.
-fn inverses(heap: Global, text: &str) -> Result<String, AnyError> {
-    let Ok(field) = PrimeField::new(text.parse::<u32>()?) else {
-        return Err("that is no prime".into());
-    };
-    let mut out = format!(heap, "inverses {text}:")?;
-    for a in 0..=field.prime() {
+// The inverses of 0 to q, '-' where there is none.
+fn inverses<F: LetteredField>(heap: Global, field: &F) -> Result<String, AnyError> {
+    let mut out = format!(heap, "inverses")?;
+    for a in 0..=field.size() {
         match field.invert(a) {
             Some(b) => write!(out, " {b}")?,
             None => write!(out, " -")?,
@@ -75,43 +90,47 @@ fn inverses(heap: Global, text: &str) -> Result<String, AnyError> {
     Ok(out)
 }
 
-// p r; locators; multipliers; cells: the r sums modulo p.
-fn sums_of(heap: Global, text: &str) -> Result<String, AnyError> {
-    let mut parts = text.split(';');
-    let head = read_numbers(heap, parts.next().unwrap_or(""))?;
+// The alphabet sizes from 0 to one above q that are admitted.
+fn admits<F: LetteredField>(heap: Global, field: &F) -> Result<String, AnyError> {
+    let mut out = format!(heap, "admits")?;
+    for letters in 0..=field.size().saturating_add(1) {
+        if field.admits(letters) {
+            write!(out, " {letters}")?;
+        }
+    }
+    Ok(out)
+}
+
+// r; locators; multipliers; cells: the r sums.
+fn sums_case<F: LetteredField>(heap: Global, field: &F, numbers: &[u32], rest: &str) -> Result<String, AnyError> {
+    let [rows] = numbers else {
+        return Err("sums begin with the rows".into());
+    };
+    let rows = *rows as usize;
+    let mut parts = rest.split(';');
     let locators = read_numbers(heap, parts.next().unwrap_or(""))?;
     let multipliers = read_numbers(heap, parts.next().unwrap_or(""))?;
     let cells = read_cells(heap, parts.next().unwrap_or(""))?;
-    let [p, rows] = head.as_slice() else {
-        return Err("sums begin with a prime and the rows".into());
-    };
-    let Ok(field) = PrimeField::new(*p) else {
-        return Err("that is no prime".into());
-    };
-    let rows = *rows as usize;
     let mut buffer = vec![in heap; 0; rows]?;
     let code = CodeRef {
-        letters: *p,
+        letters: field.size(),
         rows,
         locators: locators.as_slice(),
         multipliers: multipliers.as_slice(),
     };
-    match sums(&field, code, cells.as_slice(), buffer.as_mut_slice()) {
+    match sums(field, code, cells.as_slice(), buffer.as_mut_slice()) {
         Ok(()) => {
             let mut out = format!(heap, "sums")?;
             write_numbers(&mut out, buffer.as_slice())?;
             Ok(out)
         }
-        Err(refusal) => {
-            let number = refusal.number();
-            Ok(format!(heap, "sums refused {number}")?)
-        }
+        Err(refusal) => refused(heap, refusal.number(), refusal),
     }
 }
 
-// letters cells;marks: the cells that a line of marks stands for, '?' for a blank.
-fn line_of(heap: Global, text: &str) -> Result<String, AnyError> {
-    let Some((head, marks)) = text.split_once(';') else {
+// letters cells;marks: the cells that a line of marks stands for.
+fn line_case(heap: Global, argument: &str) -> Result<String, AnyError> {
+    let Some((head, marks)) = argument.split_once(';') else {
         return Err("a line has letters, cells and marks".into());
     };
     let numbers = read_numbers(heap, head)?;
@@ -122,18 +141,10 @@ fn line_of(heap: Global, text: &str) -> Result<String, AnyError> {
     match read_line(marks, *letters, cells.as_mut_slice()) {
         Ok(()) => {
             let mut out = format!(heap, "line")?;
-            for cell in cells.iter() {
-                match cell.letter {
-                    Some(letter) => write!(out, " {letter}")?,
-                    None => write!(out, " ?")?,
-                }
-            }
+            write_cells(&mut out, cells.as_slice())?;
             Ok(out)
         }
-        Err(LineRefusal::BadMark { place }) => Ok(format!(heap, "line refused 28 at {place}")?),
-        Err(refusal) => {
-            let number = refusal.number();
-            Ok(format!(heap, "line refused {number}")?)
-        }
+        Err(LineRefusal::BadMark { place }) => Ok(format!(heap, "refused 28 bad mark at {place}")?),
+        Err(refusal) => refused(heap, refusal.number(), refusal),
     }
 }

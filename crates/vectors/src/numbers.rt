@@ -2,7 +2,6 @@
 use codes::Cell;
 use std::alloc::Global;
 use std::error::AnyError;
-use std::num::ParseIntError;
 
 pub fn read_numbers(heap: Global, text: &str) -> Result<Vec<u32>, AnyError> {
     let mut numbers = Vec::new(heap);
@@ -28,6 +27,16 @@ pub fn read_cells(heap: Global, text: &str) -> Result<Vec<Cell>, AnyError> {
 pub fn write_numbers(text: &mut String, numbers: &[u32]) -> Result<(), AnyError> {
     for number in numbers {
         write!(text, " {number}")?;
+    }
+    Ok(())
+}
+
+pub fn write_cells(text: &mut String, cells: &[Cell]) -> Result<(), AnyError> {
+    for cell in cells {
+        match cell.letter {
+            Some(letter) => write!(text, " {letter}")?,
+            None => write!(text, " ?")?,
+        }
     }
     Ok(())
 }
