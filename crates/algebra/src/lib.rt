@@ -1,11 +1,8 @@
-// What a field means and its laws.
-ghost use mathlib.Core.Path.{_≡_};
-ghost use Rattle.algebra.specs.Limits.{largest-size};
-ghost use Rattle.algebra.specs.Laws.{Laws};
+// What a field means, its laws, and the theorems that follow from them.
+mod limits;
+mod theorems;
 
-// The most elements that a field may have.
-pub fn largest_size() -> u32
-    ensures { λ r. ⌜ r ≡ largest-size ⌝ }
-{
-    256
-}
+pub use limits::largest_size;
+pub use theorems::error_theorems;
+pub use theorems::point_theorems;
+pub use theorems::ring_theorems;
