@@ -13,8 +13,11 @@ pub mod Interpolation
 pub mod Syndromes
 pub mod Filling
 pub mod ErrorLocators
+pub mod Convolutions
+pub mod MinimalPairs
 pub mod Carrier
 pub mod Elements
+pub mod Realisations
 pub mod Numbers
 pub mod Decoding
 pub mod Examples

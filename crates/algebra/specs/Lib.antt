@@ -5,5 +5,6 @@ pub mod Power
 pub mod Alphabet
 pub mod Places
 pub mod Polynomial
+pub mod Realisation
 pub mod Theorems
 pub mod ErrorLocators

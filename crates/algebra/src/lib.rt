@@ -2,7 +2,11 @@
 mod limits;
 mod theorems;
 
-pub use limits::largest_size;
+pub use limits::COEFFICIENTS;
+pub use limits::LARGEST_CELLS;
+pub use limits::LARGEST_ROWS;
+pub use limits::LARGEST_SIZE;
+pub use limits::LONGEST_SEQUENCE;
 pub use theorems::error_theorems;
 pub use theorems::point_theorems;
 pub use theorems::ring_theorems;

@@ -1,2 +1,4 @@
 pub mod Words
 pub mod Codewords
+pub mod HouseModuli
+pub mod HouseRows

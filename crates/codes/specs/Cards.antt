@@ -9,7 +9,7 @@ use Rattle.algebra.specs.Meaning.{Meaning}
 use Rattle.algebra.specs.Laws.{Laws}
 use Rattle.algebra.specs.Alphabet.{Alphabet}
 use Rattle.algebra.specs.Theorems.{Locators, Multipliers}
-use Rattle.codes.specs.Limits.{largest-cells, largest-rows}
+use Rattle.algebra.specs.Limits.{largest-cells, largest-rows}
 use Rattle.codes.specs.Code.{Code}
 use Rattle.codes.specs.declared.card.Card.{Card}
 use Rattle.codes.specs.declared.card_cause.CardCause.{CardCause}

@@ -2,8 +2,8 @@
 mod check;
 
 ghost use Prim.Native.Nat.{_≤_};
-ghost use Rattle.codes.specs.Limits.{largest-cells};
-use crate::limits::LARGEST_CELLS;
+ghost use Rattle.algebra.specs.Limits.{largest-cells};
+use algebra::LARGEST_CELLS;
 
 #[derive(Drop)]
 pub struct Card<F> {

@@ -26,5 +26,5 @@ binary-accepted x = BinaryModulus (x .modulus) (x .degree)
 -- Granted exactly for an irreducible polynomial up to the largest: the field knows its degree, works modulo it and is
 -- accepted. Any other number is refused with 12.
 abbrev pub BinaryFieldMade : ℕ → Result BinaryField FieldCause → Type 0
-BinaryFieldMade f (Ok x) = BinaryModulus f (x .degree) × (binary-meaning x ≡ with-inverses (modulo-polynomial f (x .degree))) × binary-accepted x
+BinaryFieldMade f (Ok x) = BinaryModulus f (x .degree) × (binary-meaning x ≡ with-inverses (modulo-polynomial f (x .degree))) × binary-accepted x × (x .modulus ≡ f)
 BinaryFieldMade f (Err cause) = ((k : ℕ) → BinaryModulus f k → ⊥) × (field-number cause ≡ 12)

@@ -18,5 +18,5 @@ prime-accepted f = Listed (f .prime)
 -- Granted exactly for a listed number, which is then prime: the field works modulo it and is accepted. Any other number
 -- is refused with 11.
 abbrev pub PrimeFieldMade : ℕ → Result PrimeField FieldCause → Type 0
-PrimeFieldMade p (Ok f) = Listed p × Prime p × (prime-meaning f ≡ with-inverses (modulo p)) × prime-accepted f
+PrimeFieldMade p (Ok f) = Listed p × Prime p × (prime-meaning f ≡ with-inverses (modulo p)) × prime-accepted f × (f .prime ≡ p)
 PrimeFieldMade p (Err cause) = (Listed p → ⊥) × (field-number cause ≡ 11)

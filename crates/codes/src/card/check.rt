@@ -3,14 +3,14 @@ ghost use mathlib.Core.Path.{_≡_};
 ghost use Prim.Native.Nat.{_≤_};
 ghost use lib.ListN.{length, take};
 ghost use Rattle.std.specs.Orderings.{Decides};
-ghost use Rattle.codes.specs.Limits.{largest-cells};
+ghost use Rattle.algebra.specs.Limits.{largest-cells};
 ghost use Rattle.codes.specs.Code.{Code, code-of};
 ghost use Rattle.codes.specs.Cards.{card-code, Shape, LocatorsFit, MultipliersFit, CardMade};
 use crate::card::Card;
 use crate::card_cause::CardCause;
 use crate::code::CodeRef;
-use crate::limits::LARGEST_CELLS;
-use crate::limits::LARGEST_ROWS;
+use algebra::LARGEST_CELLS;
+use algebra::LARGEST_ROWS;
 use fields::Field;
 use fields::LetteredField;
 

@@ -1,7 +1,7 @@
 use Prim.Native.Nat.{ℕ, _<_}
 use mathlib.Core.Path.{_≡_}
 use lib.ListN.{getD, length}
-use Rattle.codes.specs.Limits.{largest-cells}
+use Rattle.algebra.specs.Limits.{largest-cells}
 use Rattle.codes.proofs.card.check.stored.Given as given
 
 abbrev pub Inv-loop-j : given.InvT-loop-j

@@ -12,7 +12,7 @@ pub returns-then-contains : need.returns-then-contains
 returns-then-contains c =
     let found = c .if-contains .ensures tt .cases in
     let listed = stands-from-has listed-primes _ (found .0, found .1, λ d. found .2 d .0 refl) in
-    (listed, listed-prime _ listed, refl, listed)
+    (listed, listed-prime _ listed, refl, listed, refl)
 
 pub returns-else-contains : need.returns-else-contains
 returns-else-contains c =

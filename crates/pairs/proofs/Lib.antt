@@ -1,0 +1,3 @@
+pub mod PolyFacts
+pub mod Counting
+pub mod PairInvariant

@@ -1,0 +1,3 @@
+pub mod Poly
+pub mod MinimalPair
+pub mod WorkedPairs
