@@ -11,6 +11,7 @@ from pathlib import Path
 
 from code import MARKS, line, sums
 from field import LARGEST_MODULUS, PRIMES, Binary, Prime, irreducible
+from pairs import realise
 
 FOLDER = Path(__file__).resolve().parent.parent / "crates" / "vectors"
 MODULI = [f for f in range(LARGEST_MODULUS + 1) if irreducible(f)]
@@ -105,6 +106,91 @@ def all_sums(rng):
             sums_case(field, rows, locators, multipliers, cells)
 
 
+def realise_case(field, sequence):
+    question = f"realise {named(field)};{words(sequence)}"
+    if len(sequence) > 64:
+        case(question, "refused 25 wrong length")
+    elif not field.element(*sequence):
+        case(question, "refused 17 no element")
+    else:
+        degree, f, w = realise(field, sequence)
+        case(question, f"degree {degree}, f {words(f)}, w {words(w or [0])}")
+
+
+def pairs(rng):
+    realise_case(Prime(7), [5, 4, 0, 5])
+    realise_case(Prime(7), [1, 7])
+    realise_case(Prime(7), [7] + [0] * 64)
+    for field in SOME_FIELDS:
+        q = field.size
+        realise_case(field, [])
+        realise_case(field, [0] * rng.randrange(1, 65))
+        realise_case(field, [0] * 63 + [1])
+        for length in (1, 2, 3, 5, 8, 13, 21, 34, 64):
+            realise_case(field, [rng.randrange(q) for _ in range(length)])
+        # sequences with a short recurrence, some of them with a change near the end
+        for length in (16, 40, 64):
+            order = rng.randrange(1, 6)
+            taps = [rng.randrange(q) for _ in range(order)]
+            sequence = [rng.randrange(q) for _ in range(order)]
+            while len(sequence) < length:
+                term = 0
+                for t, x in zip(taps, sequence[-order:]):
+                    term = field.add(term, field.mul(t, x))
+                sequence.append(term)
+            realise_case(field, sequence)
+            sequence[-rng.randrange(1, 8)] = rng.randrange(q)
+            realise_case(field, sequence)
+
+
+def card_case(field, letters, rows, locators, multipliers):
+    n = len(locators)
+    if not (2 <= n <= 256 and 1 <= rows <= 64 and rows < n and len(multipliers) == n):
+        answer = "refused 13 bad shape"
+    elif letters > field.size or not field.admits(letters):
+        answer = "refused 14 no alphabet"
+    elif not field.element(*locators) or len(set(locators)) < n:
+        answer = "refused 15 bad locator"
+    elif not field.element(*multipliers) or 0 in multipliers:
+        answer = "refused 16 bad multiplier"
+    else:
+        answer = "card granted"
+    case(f"card {named(field)} {letters} {rows};{words(locators)};{words(multipliers)}", answer)
+
+
+def cards(rng):
+    seven, eight, engraved = Prime(7), Binary(11), Binary(285)
+    card_case(seven, 7, 4, range(6), [1] * 6)
+    card_case(seven, 7, 6, range(7), [1] * 7)
+    card_case(seven, 7, 7, range(7), [1] * 7)
+    card_case(seven, 7, 0, range(7), [1] * 7)
+    card_case(seven, 7, 1, range(1), [1])
+    card_case(seven, 7, 1, range(2), [1, 1])
+    card_case(seven, 7, 4, range(6), [1] * 5)
+    card_case(seven, 6, 4, range(6), [1] * 6)
+    card_case(seven, 8, 4, range(6), [1] * 6)
+    card_case(seven, 2, 4, range(6), [1] * 6)
+    card_case(seven, 7, 4, [0, 1, 2, 3, 4, 7], [1] * 6)
+    card_case(seven, 7, 4, [0, 1, 2, 3, 4, 0], [1] * 6)
+    card_case(seven, 7, 4, range(6), [1, 1, 1, 1, 1, 0])
+    card_case(seven, 7, 4, range(6), [1, 1, 1, 1, 1, 7])
+    card_case(seven, 7, 4, [0, 0, 2, 3, 4, 5], [0] * 6)
+    card_case(eight, 8, 2, range(1, 8), range(1, 8))
+    card_case(eight, 2, 2, range(1, 8), range(1, 8))
+    card_case(eight, 4, 2, range(1, 8), range(1, 8))
+    card_case(engraved, 256, 16, range(64), [1] * 64)
+    card_case(engraved, 256, 64, range(256), [1] * 256)
+    card_case(engraved, 256, 65, range(256), [1] * 256)
+    card_case(engraved, 256, 64, list(range(256)) + [0], [1] * 257)
+    for _ in range(30):
+        n = rng.randrange(2, 9)
+        q = rng.choice((7, 8))
+        field = seven if q == 7 else eight
+        locators = rng.sample(range(9), min(n, 9))
+        multipliers = [rng.randrange(0 if rng.random() < 0.1 else 1, 9 if rng.random() < 0.1 else 7) for _ in range(n)]
+        card_case(field, rng.choice((q, q, 2)), rng.randrange(1, n + 1), locators, multipliers)
+
+
 def line_case(letters, cells, text):
     got = line(letters, cells, text)
     if isinstance(got, list):
@@ -140,6 +226,8 @@ def main():
     fields()
     arithmetic(rng)
     all_sums(rng)
+    pairs(rng)
+    cards(rng)
     lines(rng)
     (FOLDER / "stdin").write_text("\n".join(cases) + "\n", encoding="utf-8")
     proved = ["proved: [5, 4, 0, 5] [0]"]

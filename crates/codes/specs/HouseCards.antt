@@ -36,6 +36,7 @@ pub record PrimeCardOf (row : HouseRow) (card : Card PrimeField) : Type 0 where
   pub kind : row .kind ≡ prime-kind
   pub meaning : prime-meaning (card .field) ≡ with-inverses (modulo (row .origin))
   pub accepted : prime-accepted (card .field)
+  pub made-from : card .field .prime ≡ row .origin
   pub values : card-code card ≡ row-code row
   pub checked : Checked (prime-meaning (card .field)) (card-code card)
 
@@ -45,6 +46,7 @@ pub record BinaryCardOf (row : HouseRow) (card : Card BinaryField) : Type 0 wher
   pub origin : BinaryModulus (row .origin) (card .field .degree)
   pub meaning : binary-meaning (card .field) ≡ with-inverses (modulo-polynomial (row .origin) (card .field .degree))
   pub accepted : binary-accepted (card .field)
+  pub made-from : card .field .modulus ≡ row .origin
   pub values : card-code card ≡ row-code row
   pub checked : Checked (binary-meaning (card .field)) (card-code card)
 

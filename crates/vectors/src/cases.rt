@@ -3,6 +3,10 @@ use crate::numbers::read_cells;
 use crate::numbers::read_numbers;
 use crate::numbers::write_cells;
 use crate::numbers::write_numbers;
+use crate::numbers::write_polynomial;
+use algebra::COEFFICIENTS;
+use codes::Card;
+use codes::CardCauseDisplay;
 use codes::Cell;
 use codes::CodeRef;
 use codes::SumsRefusalDisplay;
@@ -15,6 +19,8 @@ use fields::LetteredField;
 use fields::PrimeField;
 use fields::PrimeFieldField;
 use fields::PrimeFieldLetteredField;
+use pairs::RealiseRefusalDisplay;
+use pairs::realise;
 use std::alloc::Global;
 use std::error::AnyError;
 use tags::LineRefusal;
@@ -51,13 +57,17 @@ fn refused(heap: Global, number: u32, cause: impl std::fmt::Display + Drop) -> R
     Ok(format!(heap, "refused {number} {cause}")?)
 }
 
-fn field_case<F: LetteredField + Drop>(heap: Global, word: &str, field: F, numbers: &[u32], rest: &str) -> Result<String, AnyError> {
+fn field_case<F: LetteredField + Drop>(heap: Global, word: &str, field: F, numbers: &[u32], rest: &str) -> Result<String, AnyError>
+    requires { ⌜ F·Field .accepted field ⌝ }
+{
     match word {
         "field" => taken(heap, &field),
         "arithmetic" => arithmetic(heap, &field, numbers),
         "inverses" => inverses(heap, &field),
         "admits" => admits(heap, &field),
         "sums" => sums_case(heap, &field, numbers, rest),
+        "realise" => realise_case(heap, &field, rest),
+        "card" => card_case(heap, field, numbers, rest),
         _ => Err("there is no such case".into()),
     }
 }
@@ -125,6 +135,45 @@ fn sums_case<F: LetteredField>(heap: Global, field: &F, numbers: &[u32], rest: &
             Ok(out)
         }
         Err(refusal) => refused(heap, refusal.number(), refusal),
+    }
+}
+
+// ;sequence: the degree of the minimal pair, then f and w up to their degrees.
+fn realise_case<F: LetteredField>(heap: Global, field: &F, rest: &str) -> Result<String, AnyError> {
+    let sequence = read_numbers(heap, rest)?;
+    let mut f = [0; COEFFICIENTS];
+    let mut w = [0; COEFFICIENTS];
+    match realise(field, sequence.as_slice(), &mut f, &mut w) {
+        Ok(degree) => {
+            let mut out = format!(heap, "degree {degree}, f")?;
+            write_polynomial(&mut out, &f)?;
+            write!(out, ", w")?;
+            write_polynomial(&mut out, &w)?;
+            Ok(out)
+        }
+        Err(refusal) => refused(heap, refusal.number(), refusal),
+    }
+}
+
+// letters r; locators; multipliers: whether the check grants the card.
+fn card_case<F: LetteredField + Drop>(heap: Global, field: F, numbers: &[u32], rest: &str) -> Result<String, AnyError>
+    requires { ⌜ F·Field .accepted field ⌝ }
+{
+    let [letters, rows] = numbers else {
+        return Err("a card begins with the letters and the rows".into());
+    };
+    let mut parts = rest.split(';');
+    let locators = read_numbers(heap, parts.next().unwrap_or(""))?;
+    let multipliers = read_numbers(heap, parts.next().unwrap_or(""))?;
+    let code = CodeRef {
+        letters: *letters,
+        rows: *rows as usize,
+        locators: locators.as_slice(),
+        multipliers: multipliers.as_slice(),
+    };
+    match Card::check(field, code) {
+        Ok(_) => Ok(format!(heap, "card granted")?),
+        Err(cause) => refused(heap, cause.number(), cause),
     }
 }
 

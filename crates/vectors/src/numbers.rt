@@ -40,3 +40,17 @@ pub fn write_cells(text: &mut String, cells: &[Cell]) -> Result<(), AnyError> {
     }
     Ok(())
 }
+
+// The coefficients up to the degree, the constant term first; one 0 for the polynomial 0.
+pub fn write_polynomial(text: &mut String, coefficients: &[u32]) -> Result<(), AnyError> {
+    let mut shown = 1;
+    for (k, coefficient) in coefficients.iter().enumerate() {
+        if *coefficient != 0 {
+            shown = k + 1;
+        }
+    }
+    for coefficient in coefficients.iter().take(shown) {
+        write!(text, " {coefficient}")?;
+    }
+    Ok(())
+}
