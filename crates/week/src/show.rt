@@ -1,9 +1,8 @@
 // How an inspection and a refused line read on paper.
 use crate::inspect::CELLS;
 use crate::inspect::Inspection;
-use crate::inspect::LETTERS;
-use crate::inspect::PRIME;
 use crate::inspect::ROWS;
+use codes::INKED;
 use codes::Verdict;
 use std::alloc::AllocError;
 use std::alloc::Global;
@@ -13,7 +12,9 @@ use tags::LineRefusalDisplay;
 
 pub impl fmt::Display for Inspection as InspectionDisplay {
     fn fmt<W: fmt::Write>(&self, f: &mut fmt::Formatter<W>) -> fmt::Result {
-        writeln!(f, "card: inked, modulo {PRIME}, {LETTERS} letters, {CELLS} cells, {ROWS} rows")?;
+        let origin = INKED.origin;
+        let letters = INKED.letters;
+        writeln!(f, "card: inked, modulo {origin}, {letters} letters, {CELLS} cells, {ROWS} rows")?;
         write!(f, "cells:")?;
         for cell in &self.cells {
             match cell.letter {
@@ -40,7 +41,7 @@ pub fn refusal_text(heap: Global, line: &str, refusal: LineRefusal) -> Result<St
             let count = line.chars().count();
             format!(heap, "{number} {refusal}: a line has {CELLS} marks, and this one has {count}")
         }
-        LineRefusal::UnmarkedAlphabet => format!(heap, "{number} {refusal}: {LETTERS} letters have no marks"),
+        LineRefusal::UnmarkedAlphabet => format!(heap, "{number} {refusal}: the alphabet has letters without a mark"),
         LineRefusal::BadMark { place } => {
             let cell = place.saturating_add(1);
             format!(heap, "{number} {refusal}: the mark of cell {cell} is no letter and no '?'")
