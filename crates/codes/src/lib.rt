@@ -31,4 +31,5 @@ pub use syndromes::SumsRefusal;
 pub use syndromes::SumsRefusalDisplay;
 pub use syndromes::sums;
 pub use verdict::Verdict;
+pub use verdict::count_blanks;
 pub use verdict::judge;

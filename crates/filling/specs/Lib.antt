@@ -1,0 +1,4 @@
+pub mod Polynomials
+pub mod Fillings
+pub mod Encodings
+pub mod CodeExamples
