@@ -1,6 +1,7 @@
 """Sums of a code's rows and lines of marks, straight from their definitions."""
 
 from field import power
+from linear import solution
 
 MARKS = "0123456789ABCDEFGHIJKLMNOPQRSTUVWXYZ-"
 
@@ -32,3 +33,20 @@ def line(letters, cells, text):
         else:
             return 28, place
     return result
+
+
+def encode(field, letters, rows, locators, multipliers, data):
+    """The codeword that begins with the data, by solving the linear system of its check letters; or a refusal's number."""
+    n = len(locators)
+    if letters < field.size:
+        return 26
+    if len(data) != n - rows:
+        return 25
+    if any(x >= letters for x in data):
+        return 22
+    given = sums(field, rows, locators, multipliers, list(data) + [None] * rows)
+    system = [
+        [field.mul(multipliers[j], power(field, locators[j], k)) for j in range(n - rows, n)] + [field.sub(0, given[k])]
+        for k in range(rows)
+    ]
+    return list(data) + solution(field, system)

@@ -9,9 +9,9 @@ The answers are worked out here, apart from the library. Each run writes the sam
 import random
 from pathlib import Path
 
-from code import MARKS, line, sums
+from code import MARKS, encode, line, sums
 from field import LARGEST_MODULUS, PRIMES, Binary, Prime, irreducible
-from pairs import realise
+from linear import realise
 
 FOLDER = Path(__file__).resolve().parent.parent / "crates" / "vectors"
 MODULI = [f for f in range(LARGEST_MODULUS + 1) if irreducible(f)]
@@ -191,6 +191,40 @@ def cards(rng):
         card_case(field, rng.choice((q, q, 2)), rng.randrange(1, n + 1), locators, multipliers)
 
 
+REFUSALS = {22: "no letter", 25: "wrong length", 26: "part alphabet"}
+
+
+def encode_case(field, letters, rows, locators, multipliers, data):
+    got = encode(field, letters, rows, list(locators), list(multipliers), list(data))
+    answer = f"word {words(got)}" if isinstance(got, list) else f"refused {got} {REFUSALS[got]}"
+    case(f"encode {named(field)} {letters} {rows};{words(locators)};{words(multipliers)};{words(data)}", answer)
+
+
+def encodings(rng):
+    seven, eight, engraved = Prime(7), Binary(11), Binary(285)
+    encode_case(seven, 7, 4, range(6), [1] * 6, [0, 2])
+    encode_case(seven, 7, 4, range(6), [1] * 6, [0, 7])
+    encode_case(seven, 7, 4, range(6), [1] * 6, [0, 2, 6])
+    encode_case(eight, 2, 2, range(1, 8), range(1, 8), [1])
+    encode_case(engraved, 256, 10, qr_locators(), [1] * 26, QR_WORD[:16])
+    # the check letters of book numbers: one row, weights 10 down to 1 modulo 11, the letter 10 written X
+    for digits in ("030640615", "019852663", "080442957", "000000000", "999999999"):
+        encode_case(Prime(11), 11, 1, range(10), range(10, 0, -1), [int(d) for d in digits])
+    encode_case(Prime(37), 37, 8, range(20), [1] * 20, [MARKS.index(c) for c in "HOARD2041TRA"])
+    encode_case(engraved, 256, 16, range(64), [1] * 64, [rng.randrange(256) for _ in range(48)])
+    encode_case(engraved, 256, 64, range(256), [1] * 256, [rng.randrange(256) for _ in range(192)])
+    for field in SOME_FIELDS:
+        q = field.size
+        if q < 3:
+            continue
+        for _ in range(4):
+            n = rng.randrange(2, min(q, 40) + 1)
+            rows = rng.randrange(1, n)
+            locators = rng.sample(range(q), n)
+            multipliers = [rng.randrange(1, q) for _ in range(n)]
+            encode_case(field, q, rows, locators, multipliers, [rng.randrange(q) for _ in range(n - rows)])
+
+
 def line_case(letters, cells, text):
     got = line(letters, cells, text)
     if isinstance(got, list):
@@ -228,6 +262,7 @@ def main():
     all_sums(rng)
     pairs(rng)
     cards(rng)
+    encodings(rng)
     lines(rng)
     (FOLDER / "stdin").write_text("\n".join(cases) + "\n", encoding="utf-8")
     proved = ["proved: [5, 4, 0, 5] [0]"]

@@ -20,7 +20,7 @@ abbrev pub lettered-cell : ℕ → Option ℕ → Cell → Option Cell
 lettered-cell letters None cell = Some cell
 lettered-cell letters (Some letter) cell = cond (ltb letter letters) (Some cell) None
 
-abbrev lettered-option : ℕ → Option Cell → Option Cell
+abbrev pub lettered-option : ℕ → Option Cell → Option Cell
 lettered-option letters None = None
 lettered-option letters (Some cell) = lettered-cell letters (cell .letter) cell
 

@@ -19,6 +19,8 @@ use fields::LetteredField;
 use fields::PrimeField;
 use fields::PrimeFieldField;
 use fields::PrimeFieldLetteredField;
+use filling::EncodeRefusalDisplay;
+use filling::encode;
 use pairs::RealiseRefusalDisplay;
 use pairs::realise;
 use std::alloc::Global;
@@ -68,6 +70,7 @@ fn field_case<F: LetteredField + Drop>(heap: Global, word: &str, field: F, numbe
         "sums" => sums_case(heap, &field, numbers, rest),
         "realise" => realise_case(heap, &field, rest),
         "card" => card_case(heap, field, numbers, rest),
+        "encode" => encode_case(heap, field, numbers, rest),
         _ => Err("there is no such case".into()),
     }
 }
@@ -173,6 +176,37 @@ fn card_case<F: LetteredField + Drop>(heap: Global, field: F, numbers: &[u32], r
     };
     match Card::check(field, code) {
         Ok(_) => Ok(format!(heap, "card granted")?),
+        Err(cause) => refused(heap, cause.number(), cause),
+    }
+}
+
+// letters r; locators; multipliers; data: the codeword that begins with the data, in a buffer of as many cells.
+fn encode_case<F: LetteredField + Drop>(heap: Global, field: F, numbers: &[u32], rest: &str) -> Result<String, AnyError>
+    requires { ⌜ F·Field .accepted field ⌝ }
+{
+    let [letters, rows] = numbers else {
+        return Err("encoding begins with the letters and the rows".into());
+    };
+    let mut parts = rest.split(';');
+    let locators = read_numbers(heap, parts.next().unwrap_or(""))?;
+    let multipliers = read_numbers(heap, parts.next().unwrap_or(""))?;
+    let letters_in = read_numbers(heap, parts.next().unwrap_or(""))?;
+    let mut word = vec![in heap; 0; locators.len()]?;
+    let code = CodeRef {
+        letters: *letters,
+        rows: *rows as usize,
+        locators: locators.as_slice(),
+        multipliers: multipliers.as_slice(),
+    };
+    match Card::check(field, code) {
+        Ok(card) => match encode(&card, letters_in.as_slice(), word.as_mut_slice()) {
+            Ok(()) => {
+                let mut out = format!(heap, "word")?;
+                write_numbers(&mut out, word.as_slice())?;
+                Ok(out)
+            }
+            Err(refusal) => refused(heap, refusal.number(), refusal),
+        },
         Err(cause) => refused(heap, cause.number(), cause),
     }
 }

@@ -7,6 +7,7 @@ use Rattle.std.specs.declared.result.Result.{Result}
 use Rattle.std.specs.declared.result.Result.the-variants.{Ok, Err}
 use Rattle.fields.specs.Modulo.{modulo}
 use Rattle.codes.specs.Cells.{blank-cell}
+use Rattle.codes.specs.declared.cell.Cell.{Cell}
 use Rattle.codes.specs.Sums.{syndromes}
 use Rattle.codes.specs.Verdicts.{Judged}
 use Rattle.codes.specs.HouseRows.{inked, row-code}
@@ -14,8 +15,13 @@ use Rattle.tags.specs.Lines.{LineRead, Marked}
 use Rattle.tags.specs.declared.line.LineRefusal.{LineRefusal}
 use Rattle.week.specs.declared.inspect.Inspection.{Inspection}
 
--- The cells are those that the marks stand for, the sums are theirs modulo 37, and the verdict is true of them. A refused
--- line is refused as reading it is.
+-- The sums are those of the cells modulo 37, and the verdict is true of them.
+pub record InspectedCells (cells : List Cell) (i : Inspection) : Type 0 where
+  pub cells-are : i .cells ≡ cells
+  pub sums-are : i .sums ≡ syndromes (modulo 37) (row-code inked) cells
+  pub verdict-is : Judged (modulo 37) (row-code inked) cells (i .verdict)
+
+-- The cells are those that the marks stand for. A refused line is refused as reading it is.
 abbrev pub Inspected : List ℕ → Result Inspection LineRefusal → Type 0
-Inspected marks (Ok i) = Marked 37 marks (i .cells) × (i .sums ≡ syndromes (modulo 37) (row-code inked) (i .cells)) × Judged (modulo 37) (row-code inked) (i .cells) (i .verdict)
+Inspected marks (Ok i) = Marked 37 marks (i .cells) × InspectedCells (i .cells) i
 Inspected marks (Err refusal) = LineRead 37 marks (replicate 20 blank-cell) (replicate 20 blank-cell) (Err refusal)

@@ -1,6 +1,8 @@
 // What a line of marks is on the inked card.
 ghost use Rattle.std.specs.shelf.Text.{decodes};
-ghost use Rattle.week.specs.Inspected.{Inspected};
+ghost use mathlib.Core.Path.{_≡_};
+ghost use Rattle.codes.specs.Cells.{noted};
+ghost use Rattle.week.specs.Inspected.{Inspected, InspectedCells};
 use codes::Cell;
 use codes::INKED;
 use codes::Verdict;
@@ -20,19 +22,38 @@ pub struct Inspection {
     pub verdict: Verdict,
 }
 
+// What a line of marks is.
 pub fn inspect_line(line: &str) -> Result<Inspection, LineRefusal>
     ensures { λ r. ⌜ Inspected (decodes (now (line .entry))) r ⌝ }
 {
     let mut cells = [Cell::blank(); CELLS];
     read_line(line, INKED.letters, &mut cells)?;
+    Ok(inspect_cells(cells))
+}
+
+// What the cells are.
+pub fn inspect_cells(cells: [Cell; CELLS]) -> Inspection
+    ensures { λ r. ⌜ InspectedCells cells r ⌝ }
+{
     let card = inked_card();
     let mut sums = [0; ROWS];
     let Ok(verdict) = judge(card.field(), card.code(), &cells, &mut sums) else {
         unreachable()
     };
-    Ok(Inspection {
+    Inspection {
         cells,
         sums,
         verdict,
-    })
+    }
+}
+
+// The cells in which a word is noted.
+pub fn noted_cells(word: &[u32; CELLS]) -> [Cell; CELLS]
+    ensures { λ r. ⌜ r ≡ noted (now (word .entry)) ⌝ }
+{
+    let mut cells = [Cell::blank(); CELLS];
+    for (j, letter) in word.iter().enumerate() {
+        cells[j] = Cell::noted(*letter);
+    }
+    cells
 }

@@ -1,7 +1,9 @@
-// How an inspection and a refused line read on paper.
+// How the card, an inspection and a refused line read on paper.
 use crate::inspect::CELLS;
 use crate::inspect::Inspection;
 use crate::inspect::ROWS;
+use crate::monday::DATA;
+use crate::monday::DataRefusal;
 use codes::INKED;
 use codes::Verdict;
 use std::alloc::AllocError;
@@ -10,41 +12,58 @@ use std::fmt;
 use tags::LineRefusal;
 use tags::LineRefusalDisplay;
 
+pub fn card_text(heap: Global) -> Result<String, AllocError> {
+    let origin = INKED.origin;
+    let letters = INKED.letters;
+    format!(heap, "card: inked, modulo {origin}, {letters} letters, {CELLS} cells, {ROWS} rows")
+}
+
 pub impl fmt::Display for Inspection as InspectionDisplay {
     fn fmt<W: fmt::Write>(&self, f: &mut fmt::Formatter<W>) -> fmt::Result {
-        let origin = INKED.origin;
-        let letters = INKED.letters;
-        writeln!(f, "card: inked, modulo {origin}, {letters} letters, {CELLS} cells, {ROWS} rows")?;
-        write!(f, "cells:")?;
+        write!(f, "  cells:")?;
         for cell in &self.cells {
             match cell.letter {
                 Some(letter) => write!(f, " {letter}")?,
                 None => write!(f, " ?")?,
             }
         }
-        write!(f, "\nsums:")?;
+        write!(f, "\n  sums:")?;
         for sum in &self.sums {
             write!(f, " {sum}")?;
         }
         match self.verdict {
-            Verdict::Codeword => write!(f, "\nthe line is a codeword"),
-            Verdict::Unfinished { blanks } => write!(f, "\nthe line is unfinished: {blanks} blank"),
-            Verdict::Damaged => write!(f, "\nthe line is damaged"),
+            Verdict::Codeword => write!(f, "\n  a codeword"),
+            Verdict::Unfinished { blanks } => write!(f, "\n  unfinished, blank cells: {blanks}"),
+            Verdict::Damaged => write!(f, "\n  damaged"),
         }
     }
 }
 
-pub fn refusal_text(heap: Global, line: &str, refusal: LineRefusal) -> Result<String, AllocError> {
+pub fn line_refusal_text(heap: Global, line: &str, refusal: LineRefusal) -> Result<String, AllocError> {
+    refusal_text(heap, line, CELLS, refusal)
+}
+
+pub fn data_refusal_text(heap: Global, line: &str, refusal: DataRefusal) -> Result<String, AllocError> {
+    match refusal {
+        DataRefusal::Line(refusal) => refusal_text(heap, line, DATA, refusal),
+        DataRefusal::Blank { place } => {
+            let cell = place.saturating_add(1);
+            format!(heap, "data letter {cell} is blank")
+        }
+    }
+}
+
+fn refusal_text(heap: Global, line: &str, cells: usize, refusal: LineRefusal) -> Result<String, AllocError> {
     let number = refusal.number();
     match refusal {
         LineRefusal::WrongLength => {
             let count = line.chars().count();
-            format!(heap, "{number} {refusal}: a line has {CELLS} marks, and this one has {count}")
+            format!(heap, "{number} {refusal}: {cells} marks are wanted, and there are {count}")
         }
         LineRefusal::UnmarkedAlphabet => format!(heap, "{number} {refusal}: the alphabet has letters without a mark"),
         LineRefusal::BadMark { place } => {
             let cell = place.saturating_add(1);
-            format!(heap, "{number} {refusal}: the mark of cell {cell} is no letter and no '?'")
+            format!(heap, "{number} {refusal}: mark {cell} is no letter and no '?'")
         }
     }
 }

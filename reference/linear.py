@@ -1,4 +1,5 @@
-"""Minimal pairs: the pair of the division-free algorithm, held to the least degree that linear algebra finds."""
+"""Linear systems over a field, and minimal pairs: the pair of the division-free algorithm, held to the least degree that
+linear algebra finds."""
 
 
 def fits(field, f, s):
@@ -22,8 +23,8 @@ def partner(field, f, s):
     return w
 
 
-def solvable(field, rows):
-    """Whether the linear system, each row with its right side last, has a solution: by elimination."""
+def eliminated(field, rows):
+    """The rows of a linear system, each with its right side last, with the pivots' columns cleared; and how many pivots."""
     rows = [list(row) for row in rows]
     width = len(rows[0]) - 1 if rows else 0
     done = 0
@@ -39,7 +40,19 @@ def solvable(field, rows):
                 factor = rows[i][column]
                 rows[i] = [field.sub(x, field.mul(factor, y)) for x, y in zip(rows[i], rows[done])]
         done += 1
+    return rows, done
+
+
+def solvable(field, rows):
+    rows, done = eliminated(field, rows)
     return all(row[-1] == 0 for row in rows[done:])
+
+
+def solution(field, rows):
+    """The solution of a system with as many rows as unknowns and only one."""
+    rows, done = eliminated(field, rows)
+    assert done == len(rows)
+    return [row[-1] for row in rows]
 
 
 def least_degree(field, s):
