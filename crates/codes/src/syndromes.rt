@@ -52,7 +52,7 @@ pub fn sums<F: Field>(field: &F, code: CodeRef<'_>, cells: &[Cell], sums: &mut [
 }
 
 // Adds x × locator^k to the sum of row k, for every row.
-fn add_powers<F: Field>(field: &F, x: u32, locator: u32, sums: &mut [u32])
+pub fn add_powers<F: Field>(field: &F, x: u32, locator: u32, sums: &mut [u32])
     ensures { λ _. ⌜ ((k : ℕ) → k < length (now (sums .exit)) → getD (now (sums .exit)) k 0 ≡ F·Field .meaning (now (field .entry)) .arithmetic .plus (getD (now (sums .entry)) k 0) (times-power (F·Field .meaning (now (field .entry)) .arithmetic) x locator k)) ⌝ }
 {
     let mut term = x;

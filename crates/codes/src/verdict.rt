@@ -58,7 +58,7 @@ fn lettered(cells: &[Cell], letters: u32) -> bool
     true
 }
 
-fn all_zero(numbers: &[u32]) -> bool
+pub fn all_zero(numbers: &[u32]) -> bool
     ensures { λ r. ⌜ Decides r (AllZero (now (numbers .entry))) ⌝ }
 {
     for number in numbers {

@@ -20,7 +20,7 @@ use Rattle.filling.specs.Fillings.{number-at, blanks-below, blank-places, anni
 use Rattle.codes.specs.declared.cell.Cell.{Cell}
 
 -- the count from the first place on
-failures-front : (n : ℕ) (t : ℕ → Bool) → failures (suc n) t ≡ cond (t 0) 0 1 + failures n (λ i. t (suc i))
+pub failures-front : (n : ℕ) (t : ℕ → Bool) → failures (suc n) t ≡ cond (t 0) 0 1 + failures n (λ i. t (suc i))
 failures-front zero t = omega arith
 failures-front (suc n) t = step (t (suc n)) _ _ _ (failures-front n t)
   where
@@ -32,7 +32,7 @@ one-is : (letter : Option ℕ) → cond (isSome letter) 0 1 ≡ one-if-blank let
 one-is None = refl
 one-is (Some x) = refl
 
-blanks-are : (cells : List Cell) → failures (length cells) (λ j. isSome (getD cells j blank-cell .letter)) ≡ blanks cells
+pub blanks-are : (cells : List Cell) → failures (length cells) (λ j. isSome (getD cells j blank-cell .letter)) ≡ blanks cells
 blanks-are [] = refl
 blanks-are (cell ∷ cells) =
     failures-front (length cells) (λ j. isSome (getD (cell ∷ cells) j blank-cell .letter)) ∙ ap₂ _+_ (one-is (cell .letter)) (blanks-are cells)

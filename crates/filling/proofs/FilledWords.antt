@@ -36,7 +36,7 @@ use Rattle.filling.proofs.Blanks.{length-blank-places}
 use Rattle.codes.proofs.Codewords.{getD-syndromes}
 
 -- actions on equal sequences
-act-same : (A : Arithmetic) (p : List ℕ) (s t : ℕ → ℕ) (k : ℕ) → ((i : ℕ) → k ≤ i → i < k + length p → s i ≡ t i) →
+pub act-same : (A : Arithmetic) (p : List ℕ) (s t : ℕ → ℕ) (k : ℕ) → ((i : ℕ) → k ≤ i → i < k + length p → s i ≡ t i) →
     act A p s k ≡ act A p t k
 act-same A [] s t k e = refl
 act-same A (c ∷ p) s t k e =
@@ -129,7 +129,7 @@ module _ {m : Meaning} {code : Code} (checked : Checked m code) (cells : List Ce
       (sum-element (checked .laws .total) j _)
       ∙ ap (add-cell A code k j (getD cells j blank-cell .letter)) (sum-to-is k j (omega arith))
 
-  noted-sum-is : (k : ℕ) → k < code .rows → noted-sum A n a h E u k ≡ number-at (syndromes A code cells) k
+  pub noted-sum-is : (k : ℕ) → k < code .rows → noted-sum A n a h E u k ≡ number-at (syndromes A code cells) k
   noted-sum-is k below = sum-to-is k n (le-refl n) ∙ sym (getD-syndromes A code cells k below)
 
   module _ (few : blanks cells ≤ code .rows) where

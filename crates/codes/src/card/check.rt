@@ -50,6 +50,14 @@ impl<F> Card<F> {
         &self.field
     }
 
+    // How many cells the card has. They are counted by the locators, so that the contract can say that there is one for each.
+    pub fn cells(&self) -> usize
+        ensures count { λ r. ⌜ r ≡ now (self .entry) .cells ⌝ }
+        ensures each { λ r. ⌜ r ≡ length (card-code (now (self .entry)) .locators) ⌝ }
+    {
+        self.locators[0..self.cells].len()
+    }
+
     pub fn code(&self) -> CodeRef<'_>
         ensures { λ r. ⌜ code-of r ≡ card-code (now (self .entry)) ⌝ }
     {
