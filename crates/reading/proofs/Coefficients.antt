@@ -11,7 +11,7 @@ use Rattle.algebra.specs.Polynomial.{evaluate, act}
 module _ (A : Arithmetic) (p : List ℕ) (i j : ℕ) (next : j ≡ suc i) (within : i < length p) where
   -- one coefficient more is applied to the sequence
   pub act-more : (s : ℕ → ℕ) (k sum x : ℕ) → sum ≡ act A (drop j p) s (k + j) → x ≡ A .plus (A .times (getD p i 0) (s (k + i))) sum →
-    x ≡ act A (drop i p) s (k + i)
+      x ≡ act A (drop i p) s (k + i)
   act-more s k sum x so-far is =
       let shifted : k + j ≡ suc (k + i) = omega arith in
       is ∙ ap (A .plus (A .times (getD p i 0) (s (k + i)))) (so-far ∙ ap₂ (λ t n. act A (drop t p) s n) next shifted)

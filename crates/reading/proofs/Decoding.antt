@@ -1,7 +1,7 @@
 -- Decoding is sound, by the last test, and complete: where a codeword is near, it is the filled word. Assumes nothing.
 use mathlib.Core.Path.{_≡_, refl, sym, _∙_, ap, subst}
 use mathlib.Core.List.{List}
-use Prim.Native.Nat.{ℕ, suc, _+_, _-_, _*_, _<_, _≤_}
+use Prim.Native.Nat.{ℕ, suc, _-_, _*_, _<_, _≤_}
 use native.Mathlib.Nat.{zero-add}
 use native.Mathlib.Omega.{arith}
 use lib.ListN.{length, getD, take}
@@ -10,7 +10,6 @@ use Rattle.std.specs.declared.option.Option.{Option}
 use Rattle.std.specs.declared.option.Option.the-variants.{Some, None}
 use Rattle.std.proofs.shelf.Counted.{getD-map-counting, length-map-counting}
 use Rattle.algebra.specs.Meaning.{Arithmetic, Meaning}
-use Rattle.algebra.specs.Realisation.{Minimal}
 use Rattle.codes.specs.Code.{Code}
 use Rattle.codes.specs.Cards.{Checked}
 use Rattle.codes.specs.Cells.{blank-cell, blanks, noted}
@@ -20,7 +19,7 @@ use Rattle.codes.specs.Verdicts.{Lettered, AllZero}
 use Rattle.codes.specs.declared.cell.Cell.{Cell}
 use Rattle.codes.proofs.Words.{syndrome-noted}
 use Rattle.codes.proofs.Codewords.{getD-syndromes, length-syndromes, noted-zeros}
-use Rattle.reading.specs.Reading.{wrong, Near}
+use Rattle.reading.specs.Reading.{Near}
 use Rattle.reading.specs.Erasing.{erased}
 use Rattle.reading.specs.Decoding.{modified-syndromes, Locates, Passes, Accepted, Decoded}
 use Rattle.reading.proofs.ModifiedSyndromes.{length-modified, getD-modified}
@@ -83,7 +82,7 @@ module _ (m : Meaning) (code : Code) (checked : Checked m code) (cells : List Ce
         long = ap length word-is ∙ length-filled m code left (syndromes A code left) ∙ ErasedRoots.length-erased A (take (suc d) f) (code .locators) cells ∙ long;
         lettered = passes .lettered;
         zeros = λ k h. sym (syndrome-noted A code word k) ∙ sym (getD-syndromes A code (noted word) k h)
-          ∙ ap (λ (l : List ℕ). getD l k 0) (sym sums-are) ∙ passes .zeros k (omega (arith, ap length sums-are, length-syndromes A code (noted word)));
+            ∙ ap (λ (l : List ℕ). getD l k 0) (sym sums-are) ∙ passes .zeros k (omega (arith, ap length sums-are, length-syndromes A code (noted word)));
       };
       close = passes .close;
     }

@@ -1,7 +1,7 @@
 -- Steps of the loops that change cells one by one and keep the sums those of the cells. Assumes nothing.
-use mathlib.Core.Path.{_≡_, refl, sym, _∙_, ap, ap₂, subst}
+use mathlib.Core.Path.{_≡_, refl, sym, _∙_, ap}
 use mathlib.Core.List.{List}
-use mathlib.Core.Logic.{_≢_, inl, inr}
+use mathlib.Core.Logic.{inl, inr}
 use mathlib.Core.Bool.{Bool, true, false, cond}
 use Prim.Native.Nat.{ℕ, _+_, _<_, _≤_}
 use native.Mathlib.Omega.{arith}
@@ -22,7 +22,7 @@ use Rattle.codes.specs.Sums.{syndrome, syndromes}
 use Rattle.codes.specs.declared.cell.Cell.{Cell}
 use Rattle.codes.proofs.Words.{length-noted, getD-noted}
 use Rattle.codes.proofs.Codewords.{getD-syndromes, length-syndromes}
-use Rattle.reading.specs.Erasing.{root, erased-cell, erased}
+use Rattle.reading.specs.Erasing.{root, erased-cell}
 
 -- the cells below j are what f says, and the others are as they were
 pub record ChangedTo (f : ℕ → Cell) (before cells : List Cell) (j : ℕ) : Type 0 where
@@ -37,8 +37,9 @@ module _ (f : ℕ → Cell) (before : List Cell) where
   pub changed-keep : (cells : List Cell) (j : ℕ) → ChangedTo f before cells j → getD before j blank-cell ≡ f j → ChangedTo f before cells (j + 1)
   changed-keep cells j so-far is = record {
     below = λ i h. elim (cases-eq i j) [
-        inl e ↦ so-far .above i (omega arith) ∙ ap (λ t. getD before t blank-cell) e ∙ is ∙ ap f (sym e)
-      | inr other ↦ so-far .below i (omega arith) ];
+      | inl e ↦ so-far .above i (omega arith) ∙ ap (λ t. getD before t blank-cell) e ∙ is ∙ ap f (sym e)
+      | inr other ↦ so-far .below i (omega arith)
+    ];
     above = λ i h. so-far .above i (omega arith);
   }
 
@@ -46,8 +47,9 @@ module _ (f : ℕ → Cell) (before : List Cell) where
   pub changed-set : (cells : List Cell) (j : ℕ) → j < length cells → ChangedTo f before cells j → ChangedTo f before (set cells j (f j)) (j + 1)
   changed-set cells j within so-far = record {
     below = λ i h. elim (cases-eq i j) [
-        inl e ↦ ap (λ t. getD (set cells j (f j)) t blank-cell) e ∙ getD-set-same cells j (f j) blank-cell within ∙ ap f (sym e)
-      | inr other ↦ getD-set-other cells j i (f j) blank-cell other ∙ so-far .below i (omega arith) ];
+      | inl e ↦ ap (λ t. getD (set cells j (f j)) t blank-cell) e ∙ getD-set-same cells j (f j) blank-cell within ∙ ap f (sym e)
+      | inr other ↦ getD-set-other cells j i (f j) blank-cell other ∙ so-far .below i (omega arith)
+    ];
     above = λ i h. getD-set-other cells j i (f j) blank-cell (λ same. omega arith) ∙ so-far .above i (omega arith);
   }
 
@@ -82,8 +84,8 @@ module _ (A : Arithmetic) (code : Code) (cells : List Cell) (sums : List ℕ) wh
 
 -- where a change of the cells adds x × a^k to the sum of row k, so do the sums
 pub sums-more : (A : Arithmetic) (code : Code) (cells cells-after : List Cell) (sums sums-after : List ℕ) (x a : ℕ) → SumsOf A code cells sums → length sums-after ≡ length sums →
-  ((k : ℕ) → k < length sums-after → getD sums-after k 0 ≡ A .plus (getD sums k 0) (times-power A x a k)) →
-  ((k : ℕ) → syndrome A code cells-after k ≡ A .plus (syndrome A code cells k) (times-power A x a k)) → SumsOf A code cells-after sums-after
+    ((k : ℕ) → k < length sums-after → getD sums-after k 0 ≡ A .plus (getD sums k 0) (times-power A x a k)) →
+    ((k : ℕ) → syndrome A code cells-after k ≡ A .plus (syndrome A code cells k) (times-power A x a k)) → SumsOf A code cells-after sums-after
 sums-more A code cells cells-after sums sums-after x a so-far long added changed k h =
     added k h ∙ ap (λ s. A .plus s (times-power A x a k)) (so-far k (omega arith)) ∙ sym (changed k)
 

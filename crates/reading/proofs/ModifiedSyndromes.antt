@@ -1,7 +1,7 @@
 -- The modified syndromes, row by row. Assumes nothing.
-use mathlib.Core.Path.{_≡_, refl, sym, _∙_, ap, ap₂, subst}
+use mathlib.Core.Path.{_≡_, sym, _∙_, ap₂, subst}
 use mathlib.Core.List.{List}
-use Prim.Native.Nat.{ℕ, _-_, _<_, _≤_}
+use Prim.Native.Nat.{ℕ, _-_, _<_}
 use native.Mathlib.Nat.{zero-add}
 use native.Mathlib.Omega.{arith}
 use lib.ListN.{length, getD}
@@ -31,8 +31,8 @@ module _ (A : Arithmetic) (code : Code) (cells : List Cell) where
   modified-elements total k h = subst (λ (x : ℕ). x < A .size) (sym (getD-modified k h)) (act-element total _ _ k)
 
   pub modified-are : (p sums modified : List ℕ) → p ≡ annihilator-below A (code .locators) cells (length cells) → sums ≡ syndromes A code cells →
-    length modified ≡ code .rows - blanks cells → ((k : ℕ) → k < length modified → getD modified k 0 ≡ act A p (number-at sums) k) →
-    modified ≡ modified-syndromes A code cells
+      length modified ≡ code .rows - blanks cells → ((k : ℕ) → k < length modified → getD modified k 0 ≡ act A p (number-at sums) k) →
+      modified ≡ modified-syndromes A code cells
   unfolding modified-syndromes
   modified-are p sums modified product summed long each =
       fill-by-all (modified-syndrome A code cells) modified (code .rows - blanks cells) 0 long

@@ -5,7 +5,7 @@ use mathlib.Core.Logic.{inl, inr}
 use Prim.Native.Nat.{ℕ, zero, suc, _+_, _*_, _<_, _≤_}
 use native.Mathlib.Decide.{ℕ-discrete, decLt}
 use native.Mathlib.Omega.{arith}
-use lib.ListN.{length, getD, take}
+use lib.ListN.{length, getD}
 use Rattle.std.specs.declared.option.Option.{Option}
 use Rattle.std.specs.declared.option.Option.the-variants.{Some, None}
 use Rattle.std.specs.declared.result.Result.{Result}
@@ -20,15 +20,14 @@ use Rattle.pairs.specs.MinimalPair.{state-after}
 use Rattle.codes.specs.Sums.{syndromes}
 use Rattle.codes.specs.Verdicts.{Lettered, AllZero}
 use Rattle.codes.specs.declared.cell.Cell.{Cell}
-use Rattle.pairs.proofs.PairInvariant.{minimal-after}
-use Rattle.reading.specs.Reading.{wrong, reach, Near, Reading, OneReading}
-use Rattle.reading.specs.Decoding.{modified-syndromes, Locates, Passes, Accepted, Decoded}
+use Rattle.reading.specs.Reading.{wrong, reach, Reading, OneReading}
+use Rattle.reading.specs.Decoding.{modified-syndromes, Locates, Accepted, Decoded}
 use Rattle.reading.specs.declared.read_answer.Counts.{Counts}
 use Rattle.reading.specs.declared.read_answer.ReadRefusal.{ReadRefusal}
 use Rattle.reading.specs.declared.read_answer.ReadRefusal.the-variants.{WrongLength, TooBlank, Lost}
 use Rattle.reading.proofs.NearWords.{near-only}
-use Rattle.reading.proofs.ModifiedSyndromes.{length-modified, modified-elements}
-use Rattle.reading.proofs.Decoding.{left, none-near, decoded}
+use Rattle.reading.proofs.Realised.{minimal-pair}
+use Rattle.reading.proofs.Decoding.{left, decoded}
 
 -- two outcomes are the same
 module _ (A : Arithmetic) (code : Code) (cells : List Cell) (before : List ℕ) where
@@ -65,8 +64,8 @@ all-below? (suc n) P each = with-last (all-below? n P each) (each n)
 passes? : (code : Code) (cells : List Cell) (word sums : List ℕ) → (r : Option ℕ) × Accepted code cells word sums r
 passes? code cells word sums =
     go (all-below? (length word) (λ j. getD word j 0 < code .letters) (λ j. decLt (getD word j 0) (code .letters)))
-       (all-below? (length sums) (λ k. getD sums k 0 ≡ 0) (λ k. ℕ-discrete (getD sums k 0) 0))
-       (decLt (reach code) (2 * wrong cells word + blanks cells))
+    (all-below? (length sums) (λ k. getD sums k 0 ≡ 0) (λ k. ℕ-discrete (getD sums k 0) 0))
+    (decLt (reach code) (2 * wrong cells word + blanks cells))
   where
     go : Dec ((j : ℕ) → j < length word → getD word j 0 < code .letters) → Dec (AllZero sums) → Dec (reach code < 2 * wrong cells word + blanks cells) → (r : Option ℕ) × Accepted code cells word sums r
     go (no high) zeros far = (None, λ passes. high (passes .lettered))
@@ -92,8 +91,7 @@ module _ (m : Meaning) (code : Code) (checked : Checked m code) (cells : List Ce
       let last = state-after A T (length T) in
       let d = last .degree in
       let f = last .pair .f .coeffs in
-      let short : length T ≤ 64 = omega (arith, length-modified A code cells, checked .shape .most-rows) in
-      let locates : Locates A code cells d f = (last .pair .w .coeffs, minimal-after (checked .laws) T (modified-elements A code cells (checked .laws .total)) short) in
+      let locates : Locates A code cells d f = (last .pair .w .coeffs, minimal-pair checked cells) in
       let rest = left m code checked cells long lettered few d f locates in
       let word = filled m code rest (syndromes A code rest) in
       let accepted = passes? code cells word (syndromes A code (noted word)) in
@@ -102,10 +100,12 @@ module _ (m : Meaning) (code : Code) (checked : Checked m code) (cells : List Ce
   outcome : Some-outcome
   outcome =
       elim (cases-eq (length before) (length (code .locators))) [
-        inr other ↦ (before, Err WrongLength, (other, refl))
-      | inl room ↦ elim (cases-lt (reach code) (blanks cells)) [
-          inl many ↦ (before, Err TooBlank, (room, many, refl))
-        | inr few ↦ (let (word, r, is) = found few in from-decoded room few word r is) ] ]
+        | inr other ↦ (before, Err WrongLength, (other, refl))
+        | inl room ↦ elim (cases-lt (reach code) (blanks cells)) [
+          | inl many ↦ (before, Err TooBlank, (room, many, refl))
+          | inr few ↦ (let (word, r, is) = found few in from-decoded room few word r is)
+        ]
+      ]
 
 pub one-reading : OneReading
 one-reading m code checked cells long lettered before =

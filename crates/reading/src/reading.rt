@@ -18,10 +18,13 @@ use algebra::LARGEST_CELLS;
 use codes::count_blanks;
 use fields::LetteredField;
 
-// Writes the near codeword into `word`, and answers how many cells are wrong and how many are blank. A tag keeps what is asked of
-// the cells: it has one for each locator, and every noted letter is one of the alphabet (Tag needs this as its invariant, a ghost
-// field, so that Tag::read asks for `Checked` alone).
-pub fn read_cells<F: LetteredField>(card: &Card<F>, cells: &[Cell], word: &mut [u32]) -> Result<Counts, ReadRefusal>
+// Writes the near codeword into `word`, and answers how many cells are wrong and how many are blank. What is asked of the cells, one
+// for each locator and every noted letter in the alphabet, is what a tag keeps.
+pub fn read_cells<F: LetteredField>(
+    card: &Card<F>,
+    cells: &[Cell],
+    word: &mut [u32],
+) -> Result<Counts, ReadRefusal>
     requires checked { ⌜ Checked (F·Field .meaning (now card .field)) (card-code (now card)) ⌝ }
     requires long { ⌜ length (now cells) ≡ now card .cells ⌝ }
     requires lettered { ⌜ Lettered (now card .letters) (now cells) ⌝ }

@@ -1,8 +1,32 @@
-// Tags: the marks that stand for cells on paper, and lines of them.
+// Tags: their cells, the marks that stand for them on paper, reading, and runs of calls.
+mod call;
+mod event;
 mod line;
 mod mark;
+mod note_refusal;
+mod run;
+mod script;
+mod script_play;
+mod tag;
+mod wipe_refusal;
+mod worker;
 
+pub use call::Call;
+pub use event::BUFFER;
+pub use event::Event;
+pub use event::UNTOUCHED;
 pub use line::LineRefusal;
 pub use line::LineRefusalDisplay;
 pub use line::read_line;
 pub use mark::read_mark;
+pub use note_refusal::NoteRefusal;
+pub use note_refusal::NoteRefusalDisplay;
+pub use run::Played;
+pub use run::work_tag;
+pub use script::Script;
+pub use script_play::ScriptWorker;
+pub use script_play::play_script;
+pub use tag::Tag;
+pub use wipe_refusal::WipeRefusal;
+pub use wipe_refusal::WipeRefusalDisplay;
+pub use worker::Worker;

@@ -112,7 +112,8 @@ fn nonzero_elements<F: Field>(field: &F, multipliers: &[u32]) -> bool
 // The list in the first places of an array, and zeros after it.
 fn stored(list: &[u32]) -> [u32; LARGEST_CELLS]
     requires { ⌜ length (now list) ≤ largest-cells ⌝ }
-    ensures { λ r. ⌜ take (length (now (list .entry))) r ≡ now (list .entry) ⌝ }
+    ensures front { λ r. ⌜ take (length (now (list .entry))) r ≡ now (list .entry) ⌝ }
+    ensures long { λ r. ⌜ length r ≡ largest-cells ⌝ }
 {
     let mut array = [0; LARGEST_CELLS];
     for (j, number) in list.iter().enumerate() {

@@ -20,7 +20,13 @@ use fields::Field;
 
 // Writes the filled cells into `word`, and puts the parts of the letters at the blank cells into the sums, which then are those of
 // the word.
-pub fn fill_candidate<F: Field>(field: &F, code: CodeRef<'_>, cells: &[Cell], sums: &mut [u32], word: &mut [u32])
+pub fn fill_candidate<F: Field>(
+    field: &F,
+    code: CodeRef<'_>,
+    cells: &[Cell],
+    sums: &mut [u32],
+    word: &mut [u32],
+)
     requires checked { ⌜ Checked (F·Field .meaning (now field)) (code-of code) ⌝ }
     requires long { ⌜ length (now cells) ≡ length (now (code .locators)) ⌝ }
     requires few { ⌜ blanks (now cells) ≤ code .rows ⌝ }
@@ -34,7 +40,13 @@ pub fn fill_candidate<F: Field>(field: &F, code: CodeRef<'_>, cells: &[Cell], su
 }
 
 // The sums of the word, from those of the noted cells.
-fn add_filled<F: Field>(field: &F, code: CodeRef<'_>, cells: &[Cell], word: &[u32], sums: &mut [u32])
+fn add_filled<F: Field>(
+    field: &F,
+    code: CodeRef<'_>,
+    cells: &[Cell],
+    word: &[u32],
+    sums: &mut [u32],
+)
     requires checked { ⌜ Checked (F·Field .meaning (now field)) (code-of code) ⌝ }
     requires long { ⌜ length (now cells) ≡ length (now (code .locators)) ⌝ }
     requires as_long { ⌜ length (now word) ≡ length (now cells) ⌝ }
@@ -51,7 +63,13 @@ fn add_filled<F: Field>(field: &F, code: CodeRef<'_>, cells: &[Cell], word: &[u3
 }
 
 // How many cells are wrong, if the word passes. `blank` is the number of blank cells, and `sums` has the sums of the word.
-pub fn accept(code: CodeRef<'_>, cells: &[Cell], blank: usize, word: &[u32], sums: &[u32]) -> Option<usize>
+pub fn accept(
+    code: CodeRef<'_>,
+    cells: &[Cell],
+    blank: usize,
+    word: &[u32],
+    sums: &[u32],
+) -> Option<usize>
     requires as_long { ⌜ length (now word) ≡ length (now cells) ⌝ }
     requires most { ⌜ length (now cells) ≤ largest-cells ⌝ }
     requires few { ⌜ blank ≤ code .rows ⌝ }

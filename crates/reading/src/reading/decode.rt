@@ -21,7 +21,13 @@ use fields::Field;
 
 // Writes the near codeword into `word` and answers how many cells are wrong, or nothing where no codeword is near. `blank` is the
 // number of blank cells.
-pub fn decode<F: Field>(field: &F, code: CodeRef<'_>, cells: &[Cell], blank: usize, word: &mut [u32]) -> Option<usize>
+pub fn decode<F: Field>(
+    field: &F,
+    code: CodeRef<'_>,
+    cells: &[Cell],
+    blank: usize,
+    word: &mut [u32],
+) -> Option<usize>
     requires checked { ⌜ Checked (F·Field .meaning (now field)) (code-of code) ⌝ }
     requires long { ⌜ length (now cells) ≡ length (now (code .locators)) ⌝ }
     requires lettered { ⌜ Lettered (code .letters) (now cells) ⌝ }

@@ -21,7 +21,13 @@ use pairs::realise;
 use fields::Field;
 
 // Writes the error locator into `locator`, and answers its degree. `sums` has the syndromes of the cells.
-pub fn error_locator<F: Field>(field: &F, code: CodeRef<'_>, cells: &[Cell], sums: &[u32], locator: &mut [u32]) -> usize
+pub fn error_locator<F: Field>(
+    field: &F,
+    code: CodeRef<'_>,
+    cells: &[Cell],
+    sums: &[u32],
+    locator: &mut [u32],
+) -> usize
     requires checked { ⌜ Checked (F·Field .meaning (now field)) (code-of code) ⌝ }
     requires long { ⌜ length (now cells) ≡ length (now (code .locators)) ⌝ }
     requires few { ⌜ blanks (now cells) ≤ code .rows ⌝ }
@@ -35,6 +41,7 @@ pub fn error_locator<F: Field>(field: &F, code: CodeRef<'_>, cells: &[Cell], sum
     let modified = &mut modified[0..code.rows - product.degree];
     modified_sums(field, &product, sums, modified);
     let mut partner = [0; COEFFICIENTS];
+    // The modified sums are elements, no more than the rows, so they are not refused.
     realise(field, modified, locator, &mut partner).unwrap()
 }
 

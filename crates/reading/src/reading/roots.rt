@@ -1,7 +1,6 @@
 // Erasing the cells whose locator is a root of the error locator.
 ghost use mathlib.Core.Path.{_≡_};
-ghost use Prim.Native.Nat.{ℕ, _<_};
-ghost use lib.ListN.{length, getD};
+ghost use lib.ListN.{length};
 ghost use Rattle.algebra.specs.Polynomial.{evaluate};
 ghost use Rattle.codes.specs.Code.{code-of};
 ghost use Rattle.codes.specs.Cards.{Checked};
@@ -13,7 +12,13 @@ use codes::add_powers;
 use fields::Field;
 
 // Makes the cells blank whose locator is a root of the polynomial, and takes their letters' parts out of the sums.
-pub fn erase_roots<F: Field>(field: &F, code: CodeRef<'_>, polynomial: &[u32], cells: &mut [Cell], sums: &mut [u32])
+pub fn erase_roots<F: Field>(
+    field: &F,
+    code: CodeRef<'_>,
+    polynomial: &[u32],
+    cells: &mut [Cell],
+    sums: &mut [u32],
+)
     requires checked { ⌜ Checked (F·Field .meaning (now field)) (code-of code) ⌝ }
     requires long { ⌜ length (now cells) ≡ length (now (code .locators)) ⌝ }
     requires summed { ⌜ now sums ≡ syndromes (F·Field .meaning (now field) .arithmetic) (code-of code) (now cells) ⌝ }

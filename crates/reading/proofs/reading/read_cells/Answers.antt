@@ -1,14 +1,12 @@
-use mathlib.Core.Path.{_≡_, refl, sym, _∙_, ap, subst, subst₂}
+use mathlib.Core.Path.{_≡_, sym, _∙_, ap, subst, subst₂}
 use mathlib.Core.List.{List}
 use Prim.Native.Nat.{ℕ}
 use native.Mathlib.Omega.{arith}
-use lib.ListN.{length, take}
-use Rattle.std.proofs.shelf.Lists.{length-take-le}
+use lib.ListN.{length}
 use Rattle.std.specs.declared.option.Option.the-variants.{Some}
-use Rattle.codes.specs.Code.{Code, code-of}
+use Rattle.codes.specs.Code.{Code}
 use Rattle.codes.specs.Cards.{Checked, card-code}
 use Rattle.codes.specs.Verdicts.{Lettered}
-use Rattle.reading.specs.Reading.{Near}
 use Rattle.reading.specs.Decoding.{Decoded}
 use Rattle.reading.proofs.NearWords.{near-only}
 use Rattle.reading.proofs.reading.read_cells.Needs as need
@@ -36,7 +34,7 @@ returns-in-Some g c =
     let cells = c .args .cells .now in
     let long : length cells ≡ length (code .locators) = c .pre .long ∙ sym (c .cells .ensures .count) ∙ c .cells .ensures .each in
     let decoded : Decoded (m .arithmetic) code cells (c .copy-from-slice .last .self) (Some (c .in-Some .wrong)) =
-          subst (λ (word : List ℕ). Decoded (m .arithmetic) code cells word (Some (c .in-Some .wrong))) (sym (c .copy-from-slice .ensures .after))
-          (subst₂ (λ (field : g .F .Denot) (code : Code). Decoded (g .F·Field .meaning field .arithmetic) code cells (c .decode .last .word) (Some (c .in-Some .wrong)))
-            (c .field .ensures) (c .code-code .ensures) (c .in-Some .ensures tt)) in
+    subst (λ (word : List ℕ). Decoded (m .arithmetic) code cells word (Some (c .in-Some .wrong))) (sym (c .copy-from-slice .ensures .after))
+    (subst₂ (λ (field : g .F .Denot) (code : Code). Decoded (g .F·Field .meaning field .arithmetic) code cells (c .decode .last .word) (Some (c .in-Some .wrong)))
+    (c .field .ensures) (c .code-code .ensures) (c .in-Some .ensures tt)) in
     (omega (arith, c .cells .ensures .each), decoded .0, (λ word near. near-only m code (c .pre .checked) cells long (c .pre .lettered) word _ near (decoded .0)), decoded .1, c .count-blanks-blank .ensures)

@@ -11,5 +11,7 @@ returns c =
     let inv = c .loop-j .inv in
     let within : length list ≤ length (c .loop-j .array) = omega (arith, inv .0, c .pre) in
     let long = length-take-le (length list) (c .loop-j .array) within in
-    ext-getD 0 (take (length list) (c .loop-j .array)) list long
-    (λ i h. getD-take (length list) (c .loop-j .array) i 0 (omega arith) ∙ inv .1 i (omega arith))
+    record {
+      front = ext-getD 0 (take (length list) (c .loop-j .array)) list long (λ i h. getD-take (length list) (c .loop-j .array) i 0 (omega arith) ∙ inv .1 i (omega arith));
+      long = inv .0;
+    }

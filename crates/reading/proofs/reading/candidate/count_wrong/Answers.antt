@@ -1,9 +1,7 @@
-use mathlib.Core.Path.{_≡_, refl, sym, _∙_, ap, ap₂}
-use mathlib.Core.List.{List}
-use Prim.Native.Nat.{ℕ, _+_}
+use mathlib.Core.Path.{_≡_, _∙_, ap, ap₂}
+use Prim.Native.Nat.{_+_}
 use native.Mathlib.Omega.{arith}
-use lib.ListN.{length, getD, drop}
-use lib.Dec.{eqb}
+use lib.ListN.{getD, drop}
 use Rattle.std.proofs.shelf.Lists.{drop-more, drop-all}
 use Rattle.std.proofs.shelf.Tests.{eq-eqb, ne-eqb, cond-true, cond-false}
 use Rattle.codes.specs.Cells.{blank-cell}
@@ -17,17 +15,18 @@ loop-j-again c =
     let cells = c .args .cells .now in
     let word = c .args .word .now in
     let more : wrong (drop j cells) (drop j word) ≡ one-if-wrong (getD cells j blank-cell .letter) (getD word j 0) + wrong (drop (j + 1) cells) (drop (j + 1) word) =
-          ap₂ wrong (drop-more cells j blank-cell (omega arith)) (drop-more word j 0 (omega (arith, c .pre))) in
+    ap₂ wrong (drop-more cells j blank-cell (omega arith)) (drop-more word j 0 (omega (arith, c .pre))) in
     elim (c .match-cell .came) [
-      in-Some·then-letter-word w ↦
-        (let one : one-if-wrong (getD cells j blank-cell .letter) (getD word j 0) ≡ 1 = ap (λ o. one-if-wrong o (getD word j 0)) (w .in-Some .is) ∙ cond-false _ 0 1 (ne-eqb _ _ (w .if-letter-word .taken)) in
-         let count = w .count-is in omega arith)
-    | in-Some·else-letter-word w ↦
-        (let none : one-if-wrong (getD cells j blank-cell .letter) (getD word j 0) ≡ 0 = ap (λ o. one-if-wrong o (getD word j 0)) (w .in-Some .is) ∙ cond-true _ 0 1 (eq-eqb _ _ (w .if-letter-word .left)) in
-         let count = w .count-is in omega arith)
-    | in-rest w ↦
-        (let none : one-if-wrong (getD cells j blank-cell .letter) (getD word j 0) ≡ 0 = ap (λ o. one-if-wrong o (getD word j 0)) (w .in-rest .is) in
-         let count = w .count-is in omega arith) ]
+      | in-Some·then-letter-word w ↦
+          (let one : one-if-wrong (getD cells j blank-cell .letter) (getD word j 0) ≡ 1 = ap (λ o. one-if-wrong o (getD word j 0)) (w .in-Some .is) ∙ cond-false _ 0 1 (ne-eqb _ _ (w .if-letter-word .taken)) in
+          let count = w .count-is in omega arith)
+      | in-Some·else-letter-word w ↦
+          (let none : one-if-wrong (getD cells j blank-cell .letter) (getD word j 0) ≡ 0 = ap (λ o. one-if-wrong o (getD word j 0)) (w .in-Some .is) ∙ cond-true _ 0 1 (eq-eqb _ _ (w .if-letter-word .left)) in
+          let count = w .count-is in omega arith)
+      | in-rest w ↦
+          (let none : one-if-wrong (getD cells j blank-cell .letter) (getD word j 0) ≡ 0 = ap (λ o. one-if-wrong o (getD word j 0)) (w .in-rest .is) in
+          let count = w .count-is in omega arith)
+    ]
 
 pub returns : need.returns
 returns c =

@@ -1,5 +1,5 @@
-use mathlib.Core.Path.{_≡_, sym, _∙_, ap, ap₂}
-use Prim.Native.Nat.{ℕ, suc, _+_, _-_}
+use mathlib.Core.Path.{_≡_, sym, _∙_, ap}
+use Prim.Native.Nat.{suc, _+_, _-_}
 use native.Mathlib.Nat.{add-zero}
 use native.Mathlib.Omega.{arith}
 use lib.ListN.{length, getD, drop}
@@ -7,7 +7,6 @@ use Rattle.std.proofs.shelf.Lists.{length-take-le, getD-take, at-drop-all}
 use Rattle.algebra.specs.Polynomial.{act}
 use Rattle.filling.specs.Fillings.{number-at}
 use Rattle.filling.specs.Polynomials.{coefficients-of}
-use Rattle.filling.specs.declared.polynomial.Polynomial.{Polynomial}
 use Rattle.reading.proofs.Coefficients.{act-more}
 use Rattle.reading.proofs.reading.locator.apply.Needs as need
 
@@ -26,8 +25,8 @@ loop-i-again g c =
     let i = c .loop-i .i - 1 in
     let long : length (coefficients-of p) ≡ suc (p .degree) = length-take-le (suc (p .degree)) (p .coefficients) (omega arith) in
     act-more A (coefficients-of p) i (c .loop-i .i) (omega arith) (omega arith) (number-at (c .args .sums .now)) (c .args .k) (c .loop-i .sum) _ (c .loop-i .inv)
-      (c .add-sum .ensures ∙ ap (λ x. A .plus x (c .loop-i .sum))
-        (c .mul .ensures ∙ ap (λ x. A .times x (getD (c .args .sums .now) (c .args .k + i) 0)) (sym (getD-take (suc (p .degree)) (p .coefficients) i 0 (omega arith)))))
+    (c .add-sum .ensures ∙ ap (λ x. A .plus x (c .loop-i .sum))
+    (c .mul .ensures ∙ ap (λ x. A .times x (getD (c .args .sums .now) (c .args .k + i) 0)) (sym (getD-take (suc (p .degree)) (p .coefficients) i 0 (omega arith)))))
 
 pub returns : need.returns
 returns g c =

@@ -1,6 +1,6 @@
-use mathlib.Core.Path.{_≡_, refl, sym, _∙_, ap, subst, subst₂}
+use mathlib.Core.Path.{_≡_, sym, _∙_, ap, subst, subst₂}
 use mathlib.Core.List.{List}
-use Prim.Native.Nat.{ℕ, _+_, _<_}
+use Prim.Native.Nat.{ℕ, _+_}
 use native.Mathlib.Omega.{arith}
 use lib.ListN.{length, getD, set}
 use Rattle.std.proofs.shelf.Counted.{fill-by-all}
@@ -21,9 +21,10 @@ use Rattle.reading.proofs.reading.roots.erase_roots.Needs.{in-Some·then-value
 
 pub loop-j-holds : need.loop-j-holds
 loop-j-holds g c =
-    let A = g .F·Field .meaning (c .args .field .now) .arithmetic in
-    (changed-none (erased-cell A (c .args .polynomial .now) (c .args .code .locators .now) (c .args .cells .now)) (c .args .cells .now),
-     sums-rows A (code-of (c .args .code)) (c .args .cells .now) (c .args .sums .now) (c .pre .summed))
+    let A = g .F·Field .meaning (c .args .field .now) .arithmetic in (
+      changed-none (erased-cell A (c .args .polynomial .now) (c .args .code .locators .now) (c .args .cells .now)) (c .args .cells .now),
+      sums-rows A (code-of (c .args .code)) (c .args .cells .now) (c .args .sums .now) (c .pre .summed),
+    )
 
 pub loop-j-again : need.loop-j-again
 loop-j-again g c =
@@ -39,25 +40,29 @@ loop-j-again g c =
     let (changed, summed) = c .loop-j .inv in
     let here : getD cells j blank-cell ≡ getD before j blank-cell = changed .above j (omega arith) in
     elim (c .match-cells-j .came) [
-      in-Some·then-value-at-eq0 w ↦
-        (let gone = erased-root A p (code .locators) before j (eq-eqb _ 0 (sym (w .value-at .ensures) ∙ w .if-value-at-eq0 .taken)) in
-         let blanked : c .match-cells-j .cells ≡ set cells j blank-cell = w .cells-is ∙ ap (set cells j) (w .blank .ensures) in
-         let a = getD (code .locators) j 0 in
-         let x = negate A (A .times (w .in-Some .letter) (getD (code .multipliers) j 0)) in
-         let x-is : w .sub .result ≡ x = w .sub .ensures ∙ ap (negate A) (w .mul-weighted .ensures) in
-         (subst (λ (l : List Cell). ChangedTo f before l (j + 1)) (sym (blanked ∙ ap (set cells j) (sym gone))) (changed-set f before cells j (omega arith) changed),
-          sums-more A code cells (c .match-cells-j .cells) sums (c .match-cells-j .sums) x a summed (c .match-cells-j .kept .sums)
-            (λ k h. ap (λ (l : List ℕ). getD l k 0) (w .sums-is) ∙ w .add-powers .ensures k (omega (arith, ap length (w .sums-is))) ∙ ap (λ x. A .plus (getD sums k 0) (times-power A x a k)) x-is)
-            (λ k. ap (λ (l : List Cell). syndrome A code l k) blanked
-              ∙ syndrome-set-blank (lawful (c .pre .checked .laws)) code cells j (w .in-Some .letter) k (omega arith) (w .in-Some .is) (c .pre .checked .locators .element j (omega arith)))))
-    | in-Some·else-value-at-eq0 w ↦
-        (let stays = sym (erased-other A p (code .locators) before j (ne-eqb _ 0 (λ e. w .if-value-at-eq0 .left (w .value-at .ensures ∙ e)))) in
-         (subst (λ (l : List Cell). ChangedTo f before l (j + 1)) (sym (w .cells-is)) (changed-keep f before cells j changed stays),
-          subst₂ (SumsOf A code) (sym (w .cells-is)) (sym (w .sums-is)) summed))
-    | in-rest w ↦
-        (let stays = erased-blank A p (code .locators) before j (ap (λ (x : Cell). x .letter) (sym here) ∙ w .in-rest .is) in
-         (subst (λ (l : List Cell). ChangedTo f before l (j + 1)) (sym (w .cells-is)) (changed-keep f before cells j changed stays),
-          subst₂ (SumsOf A code) (sym (w .cells-is)) (sym (w .sums-is)) summed)) ]
+      | in-Some·then-value-at-eq0 w ↦
+          (let gone = erased-root A p (code .locators) before j (eq-eqb _ 0 (sym (w .value-at .ensures) ∙ w .if-value-at-eq0 .taken)) in
+          let blanked : c .match-cells-j .cells ≡ set cells j blank-cell = w .cells-is ∙ ap (set cells j) (w .blank .ensures) in
+          let a = getD (code .locators) j 0 in
+          let x = negate A (A .times (w .in-Some .letter) (getD (code .multipliers) j 0)) in
+          let x-is : w .sub .result ≡ x = w .sub .ensures ∙ ap (negate A) (w .mul-weighted .ensures) in (
+            subst (λ (l : List Cell). ChangedTo f before l (j + 1)) (sym (blanked ∙ ap (set cells j) (sym gone))) (changed-set f before cells j (omega arith) changed),
+            sums-more A code cells (c .match-cells-j .cells) sums (c .match-cells-j .sums) x a summed (c .match-cells-j .kept .sums)
+                (λ k h. ap (λ (l : List ℕ). getD l k 0) (w .sums-is) ∙ w .add-powers .ensures k (omega (arith, ap length (w .sums-is))) ∙ ap (λ x. A .plus (getD sums k 0) (times-power A x a k)) x-is)
+                (λ k. ap (λ (l : List Cell). syndrome A code l k) blanked
+                ∙ syndrome-set-blank (lawful (c .pre .checked .laws)) code cells j (w .in-Some .letter) k (omega arith) (w .in-Some .is) (c .pre .checked .locators .element j (omega arith))),
+          ))
+      | in-Some·else-value-at-eq0 w ↦
+          (let stays = sym (erased-other A p (code .locators) before j (ne-eqb _ 0 (λ e. w .if-value-at-eq0 .left (w .value-at .ensures ∙ e)))) in (
+            subst (λ (l : List Cell). ChangedTo f before l (j + 1)) (sym (w .cells-is)) (changed-keep f before cells j changed stays),
+            subst₂ (SumsOf A code) (sym (w .cells-is)) (sym (w .sums-is)) summed,
+          ))
+      | in-rest w ↦
+          (let stays = erased-blank A p (code .locators) before j (ap (λ (x : Cell). x .letter) (sym here) ∙ w .in-rest .is) in (
+            subst (λ (l : List Cell). ChangedTo f before l (j + 1)) (sym (w .cells-is)) (changed-keep f before cells j changed stays),
+            subst₂ (SumsOf A code) (sym (w .cells-is)) (sym (w .sums-is)) summed,
+          ))
+    ]
 
 pub returns : need.returns
 unfolding erased

@@ -1,5 +1,5 @@
 use mathlib.Core.Path.{_≡_, sym, _∙_, ap}
-use Prim.Native.Nat.{ℕ, _-_}
+use Prim.Native.Nat.{_-_}
 use native.Mathlib.Omega.{arith}
 use lib.ListN.{length, getD, drop}
 use Rattle.std.proofs.shelf.Lists.{at-drop-all}
@@ -17,7 +17,7 @@ loop-i-again g c =
     let A = g .F·Field .meaning (c .args .field .now) .arithmetic in
     let p = c .args .polynomial .now in
     evaluate-more A p (c .loop-i .i - 1) (c .loop-i .i) (omega arith) (omega arith) (c .args .point) (c .loop-i .value) _ (c .loop-i .inv)
-      (c .add-value .ensures ∙ ap (A .plus (getD p (c .loop-i .i - 1) 0)) (c .mul .ensures))
+    (c .add-value .ensures ∙ ap (A .plus (getD p (c .loop-i .i - 1) 0)) (c .mul .ensures))
 
 pub returns : need.returns
 returns g c =

@@ -1,0 +1,7 @@
+// A worker whose calls are known beforehand.
+use crate::call::Call;
+
+#[derive(Clone, Copy)]
+pub struct Script<'a> {
+    pub calls: &'a [Call<'a>],
+}
