@@ -1,5 +1,7 @@
 """Sums of a code's rows and lines of marks, straight from their definitions."""
 
+from itertools import product
+
 from field import power
 from linear import solution
 
@@ -50,3 +52,21 @@ def encode(field, letters, rows, locators, multipliers, data):
         for k in range(rows)
     ]
     return list(data) + solution(field, system)
+
+
+def codewords(field, letters, rows, locators, multipliers):
+    """All codewords of a small code, by trying every word."""
+    n = len(locators)
+    return [w for w in product(range(letters), repeat=n) if not any(sums(field, rows, locators, multipliers, w))]
+
+
+def read(words, rows, cells):
+    """The near one among all codewords, with its two counts; or a refusal's number."""
+    blank = cells.count(None)
+    if blank > rows:
+        return 23
+    for word in words:
+        wrong = sum(c is not None and c != x for c, x in zip(cells, word))
+        if 2 * wrong + blank <= rows:
+            return wrong, blank, list(word)
+    return 24

@@ -9,7 +9,7 @@ The answers are worked out here, apart from the library. Each run writes the sam
 import random
 from pathlib import Path
 
-from code import MARKS, encode, line, sums
+from code import MARKS, codewords, encode, line, read, sums
 from field import LARGEST_MODULUS, PRIMES, Binary, Prime, irreducible
 from linear import realise
 
@@ -225,6 +225,64 @@ def encodings(rng):
             encode_case(field, q, rows, locators, multipliers, [rng.randrange(q) for _ in range(n - rows)])
 
 
+READ_REFUSALS = {23: "too blank", 24: "lost"}
+
+
+def read_case(field, letters, rows, locators, multipliers, cells, got):
+    if isinstance(got, int):
+        answer = f"refused {got} {READ_REFUSALS[got]}"
+    else:
+        answer = f"{got[0]} wrong, {got[1]} blank, word {words(got[2])}"
+    case(f"read {named(field)} {letters} {rows};{words(locators)};{words(multipliers)};{words(cells)}", answer)
+
+
+def small_readings(rng):
+    # codes so small that every codeword can be tried
+    seven, eight = Prime(7), Binary(11)
+    codes = [
+        (seven, 7, 4, list(range(6)), [1] * 6),
+        (eight, 8, 2, [1, 2, 3, 4, 5], [1, 2, 3, 4, 5]),
+        (eight, 2, 2, list(range(1, 8)), list(range(1, 8))),
+        (Prime(5), 5, 3, [0, 1, 2, 3, 4], [4, 3, 2, 1, 1]),
+        (Prime(3), 3, 1, [0, 1, 2], [1, 2, 1]),
+        (Binary(7), 4, 2, [0, 1, 2, 3], [3, 1, 2, 1]),
+        (Binary(19), 2, 4, list(range(1, 16)), list(range(1, 16))),
+    ]
+    fixed = {
+        0: ["123456", "153406", "??3406", "???406", "????06", "?????6", "153400"],
+        1: [],
+        2: ["1?0?000"],
+    }
+    for i, (field, letters, rows, locators, multipliers) in enumerate(codes):
+        every = codewords(field, letters, rows, locators, multipliers)
+        tags = [[None if c == "?" else int(c) for c in text] for text in fixed.get(i, [])]
+        for _ in range(60):
+            word = list(rng.choice(every))
+            for j in rng.sample(range(len(word)), rng.randrange(0, min(rows + 2, len(word)) + 1)):
+                word[j] = None if rng.random() < 0.5 else rng.randrange(letters)
+            tags.append(word)
+        for cells in tags:
+            read_case(field, letters, rows, locators, multipliers, cells, read(every, rows, cells))
+
+
+def large_readings(rng):
+    # planted errors and blanks up to the bound; one blank more than rows is too blank
+    for field, letters, rows, n in ((Prime(37), 37, 8, 20), (Binary(285), 256, 16, 64), (Prime(251), 251, 64, 128)):
+        locators, multipliers = list(range(n)), [1] * n
+        for _ in range(12):
+            word = encode(field, letters, rows, locators, multipliers, [rng.randrange(letters) for _ in range(n - rows)])
+            blank = rng.randrange(rows + 1)
+            wrong = rng.randrange((rows - blank) // 2 + 1) if rng.random() < 0.5 else (rows - blank) // 2
+            places = rng.sample(range(n), wrong + blank)
+            cells = list(word)
+            for j in places[:wrong]:
+                cells[j] = field.add(word[j], rng.randrange(1, letters))
+            for j in places[wrong:]:
+                cells[j] = None
+            read_case(field, letters, rows, locators, multipliers, cells, (wrong, blank, word))
+        read_case(field, letters, rows, locators, multipliers, [None] * (rows + 1) + [0] * (n - rows - 1), 23)
+
+
 def line_case(letters, cells, text):
     got = line(letters, cells, text)
     if isinstance(got, list):
@@ -263,6 +321,8 @@ def main():
     pairs(rng)
     cards(rng)
     encodings(rng)
+    small_readings(rng)
+    large_readings(rng)
     lines(rng)
     (FOLDER / "stdin").write_text("\n".join(cases) + "\n", encoding="utf-8")
     proved = ["proved: [5, 4, 0, 5] [0]"]

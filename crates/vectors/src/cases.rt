@@ -23,10 +23,14 @@ use filling::EncodeRefusalDisplay;
 use filling::encode;
 use pairs::RealiseRefusalDisplay;
 use pairs::realise;
+use reading::ReadRefusalDisplay;
 use std::alloc::Global;
 use std::error::AnyError;
+use tags::Call;
+use tags::Event;
 use tags::LineRefusal;
 use tags::LineRefusalDisplay;
+use tags::play_script;
 use tags::read_line;
 
 // A case is a word and its argument. All but a line begin with a field: its kind, and what it is made from.
@@ -71,6 +75,7 @@ fn field_case<F: LetteredField + Drop>(heap: Global, word: &str, field: F, numbe
         "realise" => realise_case(heap, &field, rest),
         "card" => card_case(heap, field, numbers, rest),
         "encode" => encode_case(heap, field, numbers, rest),
+        "read" => read_case(heap, field, numbers, rest),
         _ => Err("there is no such case".into()),
     }
 }
@@ -208,6 +213,65 @@ fn encode_case<F: LetteredField + Drop>(heap: Global, field: F, numbers: &[u32],
             Err(refusal) => refused(heap, refusal.number(), refusal),
         },
         Err(cause) => refused(heap, cause.number(), cause),
+    }
+}
+
+// letters r; locators; multipliers; cells: a tag with these cells noted is read.
+fn read_case<F: LetteredField + Drop>(heap: Global, field: F, numbers: &[u32], rest: &str) -> Result<String, AnyError>
+    requires { ⌜ F·Field .accepted field ⌝ }
+{
+    let [letters, rows] = numbers else {
+        return Err("reading begins with the letters and the rows".into());
+    };
+    let mut parts = rest.split(';');
+    let locators = read_numbers(heap, parts.next().unwrap_or(""))?;
+    let multipliers = read_numbers(heap, parts.next().unwrap_or(""))?;
+    let calls = note_calls(heap, parts.next().unwrap_or(""), locators.len())?;
+    let code = CodeRef {
+        letters: *letters,
+        rows: *rows as usize,
+        locators: locators.as_slice(),
+        multipliers: multipliers.as_slice(),
+    };
+    match Card::check(field, code) {
+        Ok(card) => {
+            let blank = Event::Wipe { cell: 1, answer: Ok(()) };
+            let mut journal = vec![in heap; blank; calls.len()]?;
+            play_script(&card, calls.as_slice(), journal.as_mut_slice());
+            last_read(heap, journal.as_slice())
+        }
+        Err(cause) => refused(heap, cause.number(), cause),
+    }
+}
+
+// The calls that note the cells of a text, and a read into a buffer of `length` numbers.
+fn note_calls(heap: Global, text: &str, length: usize) -> Result<Vec<Call<'static>>, AnyError> {
+    let cells = read_cells(heap, text)?;
+    let mut calls = Vec::new(heap);
+    for (j, cell) in cells.iter().enumerate() {
+        if let Some(letter) = cell.letter {
+            calls.push(Call::Note { cell: j.saturating_add(1), letter })?;
+        }
+    }
+    calls.push(Call::Read { length })?;
+    Ok(calls)
+}
+
+fn last_read(heap: Global, journal: &[Event<'_>]) -> Result<String, AnyError> {
+    let Some(Event::Read { length, answer, buffer }) = journal.last().copied() else {
+        return Err("the last call was no read".into());
+    };
+    match answer {
+        Ok(counts) => {
+            let wrong = counts.wrong;
+            let blank = counts.blank;
+            let mut out = format!(heap, "{wrong} wrong, {blank} blank, word")?;
+            for letter in buffer.iter().take(length) {
+                write!(out, " {letter}")?;
+            }
+            Ok(out)
+        }
+        Err(refusal) => refused(heap, refusal.number(), refusal),
     }
 }
 
