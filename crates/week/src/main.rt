@@ -1,8 +1,10 @@
 // The week of one inked tag: on Monday its letters are encoded and inked, later a line of marks is found on it.
+mod friday;
 mod inspect;
 mod monday;
 mod show;
 
+use friday::read_found;
 use inspect::inspect_cells;
 use inspect::inspect_line;
 use inspect::noted_cells;
@@ -11,7 +13,6 @@ use show::InspectionDisplay;
 use show::card_text;
 use show::data_refusal_text;
 use show::line_refusal_text;
-use std::alloc::Global;
 use std::error::AnyError;
 
 // The next line of the input, without its end.
@@ -37,7 +38,10 @@ fn run(rt: &LibcRuntime) -> Result<(), AnyError> {
     next_line(rt, &mut input)?;
     let line = input.as_str().trim_end();
     match inspect_line(line) {
-        Ok(found) => println!(rt, "later, {line} is found:\n{found}")?,
+        Ok(found) => {
+            println!(rt, "later, {line} is found:\n{found}")?;
+            rt.println(read_found(heap, &found.cells)?)?;
+        }
         Err(refusal) => return Err(line_refusal_text(heap, line, refusal)?.into()),
     }
     Ok(())

@@ -8,7 +8,10 @@ use codes::INKED;
 use codes::Verdict;
 use std::alloc::AllocError;
 use std::alloc::Global;
+use std::error::AnyError;
 use std::fmt;
+use reading::ReadRefusalDisplay;
+use tags::Event;
 use tags::LineRefusal;
 use tags::LineRefusalDisplay;
 
@@ -36,6 +39,31 @@ pub impl fmt::Display for Inspection as InspectionDisplay {
             Verdict::Unfinished { blanks } => write!(f, "\n  unfinished, blank cells: {blanks}"),
             Verdict::Damaged => write!(f, "\n  damaged"),
         }
+    }
+}
+
+pub fn reading_text(heap: Global, event: Event<'_>) -> Result<String, AnyError> {
+    match event {
+        Event::Read {
+            length,
+            answer: Ok(counts),
+            buffer,
+        } => {
+            let wrong = counts.wrong;
+            let blank = counts.blank;
+            let mut text = format!(heap, "it reads, with {wrong} wrong and {blank} blank:\n  letters:")?;
+            for letter in buffer.iter().take(length) {
+                write!(text, " {letter}")?;
+            }
+            Ok(text)
+        }
+        Event::Read {
+            answer: Err(refusal), ..
+        } => {
+            let number = refusal.number();
+            Ok(format!(heap, "it does not read: {number} {refusal}")?)
+        }
+        _ => Err("the last call was no read".into()),
     }
 }
 
