@@ -1,4 +1,6 @@
 // What a field means, its laws, and the theorems that follow from them.
+#![tactic(auto)]
+
 mod limits;
 mod theorems;
 

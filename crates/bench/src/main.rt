@@ -1,4 +1,6 @@
 // Times readings of the engraved card. Without an argument it tells what it measures; with the argument `run` it measures.
+#![tactic(auto)]
+
 mod damage;
 mod engraved;
 

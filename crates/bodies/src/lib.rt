@@ -1,4 +1,6 @@
 // The bodies of a tray file's records: cards, cells and notes as numbers and bytes.
+#![tactic(auto)]
+
 mod card_body;
 mod card_head;
 mod card_shape;

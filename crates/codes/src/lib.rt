@@ -1,4 +1,6 @@
 // Codes over a field: cells, sums, and whether a line of cells is a codeword.
+#![tactic(auto)]
+
 mod card;
 mod card_cause;
 mod cell;

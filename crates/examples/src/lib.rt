@@ -1,4 +1,6 @@
 // Examples worked by hand, to which the definitions are held.
+#![tactic(auto)]
+
 ghost use Rattle.examples.specs.HandTried.{HandTried};
 
 // Asks for the proofs; it does nothing.

@@ -1,5 +1,5 @@
 -- An irreducible polynomial is a modulus, so the polynomials below its degree make a field. Assumes nothing.
-use Rattle.std.specs.Prelude.{◌≡◌, ℕ, zero, suc, ◌^◌, ◌<◌, ◌≤◌, Some, bit-xor, refl}
+use Rattle.std.specs.Prelude.{◌≡◌, ℕ, zero, suc, ◌^◌, ◌<◌, ◌≤◌, Some, bit_xor, refl}
 use Rattle.std.proofs.Common.{sym, ap, ◌∙◌, ⊎_elim, arith, eq-zero-or-pos, pow_mono}
 use Rattle.std.specs.Int.Bits.{xor_assoc, xor_self, xor_zero_r}
 use Rattle.std.proofs.lemmas.Nat.{xor_comm, xor_lt}
@@ -26,7 +26,7 @@ degree_positive f (suc k) d h = pow_mono {i = 1} (omega arith)
 
 module _ (f k : ℕ) (d : Degree f k) (i : Irreducible f) where
   -- f divided by a; nothing is said where a is 0
-  divided_by : (a : ℕ) → (q : ℕ) × (r : ℕ) × (0 < a → (f ≡ bit-xor (q ⊗ a) r) × (r < a))
+  divided_by : (a : ℕ) → (q : ℕ) × (r : ℕ) × (0 < a → (f ≡ bit_xor (q ⊗ a) r) × (r < a))
   divided_by a =
       ⊎_elim (λ e. (0, 0, λ h. absurd (omega arith)))
       (λ p.
@@ -35,9 +35,9 @@ module _ (f k : ℕ) (d : Degree f k) (i : Irreducible f) where
       (r.quotient, remainder a j f, λ _. (r.divides, omega (arith, r.small, degree_ge a j da))))
       (eq-zero-or-pos a)
 
-  pub binary_modulus : Modulus (2 ^ k) bit-xor bit-xor (λ a b. remainder f k (a ⊗ b))
+  pub binary_modulus : Modulus (2 ^ k) bit_xor bit_xor (λ a b. remainder f k (a ⊗ b))
   binary_modulus = record {
-    add = bitXor;
+    add = bit_xor;
     mul = ◌⊗◌;
     reduce = remainder f k;
     modulus = f;
@@ -55,16 +55,16 @@ module _ (f k : ℕ) (d : Degree f k) (i : Irreducible f) where
     reduce_add = remainder_add f k d;
     reduce_mul = remainder_product f k d;
     reduce_modulus = remainder_modulus f k d;
-    plus_is = λ a b ha hb. sym (remainder_small f k d (bit-xor a b) (xor_lt k a b ha hb));
+    plus_is = λ a b ha hb. sym (remainder_small f k d (bit_xor a b) (xor_lt k a b ha hb));
     times_is = λ a b ha hb. refl;
     minus_below = xor_lt k;
-    minus_is = λ a b ha hb. xor_assoc a b b ∙ ap (bit-xor a) (xor_self b) ∙ xor_zero_r a;
+    minus_is = λ a b ha hb. xor_assoc a b b ∙ ap (bit_xor a) (xor_self b) ∙ xor_zero_r a;
     quotient = λ a. (divided_by a).0;
     rest = λ a. (divided_by a).1;
     division = λ a h. ((divided_by a).2 h).0;
     rest_smaller = λ a h. ((divided_by a).2 h).1;
     no_factor = λ a l h z.
-        let e = ((divided_by a).2 (omega arith)).0 ∙ ap (bit-xor ((divided_by a).0 ⊗ a)) z ∙ xor_zero_r ((divided_by a).0 ⊗ a) in
+        let e = ((divided_by a).2 (omega arith)).0 ∙ ap (bit_xor ((divided_by a).0 ⊗ a)) z ∙ xor_zero_r ((divided_by a).0 ⊗ a) in
         no_factor f (divided_by a).0 a i l (omega (arith, degree_ge f k d)) e;
   }
 

@@ -1,4 +1,6 @@
 // Fields, and the kinds that the library makes.
+#![tactic(auto)]
+
 mod binary_field;
 mod cause;
 mod field;

@@ -1,4 +1,6 @@
 // Filling erased cells, and encoding.
+#![tactic(auto)]
+
 mod encode_refusal;
 mod encoding;
 mod erasures;

@@ -1,5 +1,7 @@
 // Tags over a field that the library does not make, the field of four elements: cards, encoding, reading and runs, by the library's
 // public calls as they stand.
+#![tactic(auto)]
+
 mod cards;
 mod encode;
 mod play;

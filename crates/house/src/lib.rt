@@ -1,4 +1,6 @@
 // The house cards: the codes that every store knows by number, and their checked cards.
+#![tactic(auto)]
+
 mod house_cards;
 mod house_rows;
 

@@ -1,4 +1,6 @@
 // Lines of marks: which cells they stand for.
+#![tactic(auto)]
+
 mod line;
 mod mark;
 

@@ -1,4 +1,6 @@
 // Numbers in groups of seven bits, the lowest group first: reading and writing them.
+#![tactic(auto)]
+
 mod limits;
 mod number_cause;
 mod number_reading;

@@ -1,4 +1,6 @@
 // Minimal pairs: a polynomial of least degree that fits a sequence, and its partner.
+#![tactic(auto)]
+
 mod minimal_pair;
 mod poly;
 

@@ -1,4 +1,6 @@
 // Reading: the only codeword near a line of cells.
+#![tactic(auto)]
+
 mod read_answer;
 mod reading;
 

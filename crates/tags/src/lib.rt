@@ -1,4 +1,6 @@
 // Tags: their cells, reading, and runs of calls.
+#![tactic(auto)]
+
 mod call;
 mod event;
 mod note_refusal;

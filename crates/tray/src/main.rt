@@ -1,4 +1,6 @@
 // Reads a tray file from standard input, and prints what its cells records read as.
+#![tactic(auto)]
+
 use std::io::Read;
 use trayfile::LONGEST_FILE;
 use traylines::print_lines;

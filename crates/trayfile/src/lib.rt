@@ -1,4 +1,6 @@
 // The tray file: a reader of its records, one after another.
+#![tactic(auto)]
+
 mod fault;
 mod header;
 mod kind;

@@ -1,4 +1,6 @@
 // What a tray file's cells records read as, line by line.
+#![tactic(auto)]
+
 mod card_word;
 mod file_lines;
 mod line;

@@ -1,5 +1,7 @@
 // Prints the lines of many tray files, each given in hexadecimal on a line of standard input, so that they can be compared with the
 // results of code written apart.
+#![tactic(auto)]
+
 mod hexadecimal;
 
 use hexadecimal::decode;

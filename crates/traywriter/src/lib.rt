@@ -1,4 +1,6 @@
 // Writers of a tray file's records: each puts one record at the front of a buffer.
+#![tactic(auto)]
+
 mod card_writing;
 mod cells_writing;
 mod note_writing;

@@ -1,4 +1,6 @@
 // The week of one inked tag: on Monday its letters are encoded and inked, later a line of marks is found on it.
+#![tactic(auto)]
+
 mod friday;
 mod inspect;
 mod monday;

@@ -1,4 +1,6 @@
 // The week of one inked tag: on Monday its letters are encoded and inked, later ink bleeds and goes, and on Friday the tag is read.
+#![tactic(auto)]
+
 mod filed;
 mod found;
 mod friday;
