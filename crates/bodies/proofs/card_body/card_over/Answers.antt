@@ -8,12 +8,12 @@ use Rattle.bodies.specs.CardBodies.{card_body}
 use Rattle.bodies.proofs.CardValues.{lists_refused, values_are, values_refused}
 use Rattle.bodies.proofs.card_body.card_over.Goals as goal
 
-pub returns-in-err-lists : goal.returns-in-err-lists
-returns-in-err-lists g c =
+pub returns-in_err-lists : goal.returns-in_err-lists
+returns-in_err-lists g c =
     let head = c.args.read.head in
     let stands = c.requires.stands in
-    let fits : HeadFits (g.F.Field.meaning c.args.field) c.args.read.head = record { shape = c.if-not-has-shape.ensures.0 refl; alphabet = c.if-not-admits.ensures.0 refl } in
-    let stop = lists_refused head c.args.body.now stands.begins (g.F.Field.meaning c.args.field) c.args.read.end _ fits stands.end c.in-err-lists.ensures in
+    let fits : HeadFits (g.F.Field.meaning c.args.field) c.args.read.head = record { shape = c.if-not-has_shape.ensures.0 refl; alphabet = c.if-not-admits.ensures.0 refl } in
+    let stop = lists_refused head c.args.body.now stands.begins (g.F.Field.meaning c.args.field) c.args.read.end _ fits stands.end c.in_err-lists.ensures in
     let p = err_from_is_err_and c.from-residual.result c.from-residual.ensures.1 in
     rw (p.1, p.2) stop
 
@@ -22,9 +22,9 @@ returns-in-Ok g c =
     let m = g.F.Field.meaning c.args.field in
     let head = c.args.read.head in
     let stands = c.requires.stands in
-    let fits : HeadFits (g.F.Field.meaning c.args.field) c.args.read.head = record { shape = c.if-not-has-shape.ensures.0 refl; alphabet = c.if-not-admits.ensures.0 refl } in
-    let lists = c.in-ok-lists.lists in
-    let read = c.in-ok-lists.ensures in
+    let fits : HeadFits (g.F.Field.meaning c.args.field) c.args.read.head = record { shape = c.if-not-has_shape.ensures.0 refl; alphabet = c.if-not-admits.ensures.0 refl } in
+    let lists = c.in_ok-lists.lists in
+    let read = c.in_ok-lists.ensures in
     let made = c.in-Ok.ensures in
     let whole : head.cells - 0 ≡ head.cells = omega arith in
     let values = values_are m head c.args.body.now stands.begins c.args.read.end stands.end fits _ lists.locators lists.multipliers refl refl
@@ -36,9 +36,9 @@ returns-in-Err g c =
     let m = g.F.Field.meaning c.args.field in
     let head = c.args.read.head in
     let stands = c.requires.stands in
-    let fits : HeadFits (g.F.Field.meaning c.args.field) c.args.read.head = record { shape = c.if-not-has-shape.ensures.0 refl; alphabet = c.if-not-admits.ensures.0 refl } in
-    let lists = c.in-ok-lists.lists in
-    let read = c.in-ok-lists.ensures in
+    let fits : HeadFits (g.F.Field.meaning c.args.field) c.args.read.head = record { shape = c.if-not-has_shape.ensures.0 refl; alphabet = c.if-not-admits.ensures.0 refl } in
+    let lists = c.in_ok-lists.lists in
+    let read = c.in_ok-lists.ensures in
     let whole : head.cells - 0 ≡ head.cells = omega arith in
     let values = values_are m head c.args.body.now stands.begins c.args.read.end stands.end fits _ lists.locators lists.multipliers refl refl
     (ap (λ n. take n lists.locators) whole) (ap (λ n. take n lists.multipliers) whole) read.1 read.2 read.0 in

@@ -6,8 +6,8 @@ use Rattle.bodies.proofs.cells_body.write_cells.Goals as goal
 
 pub loop-j-preserved : goal.loop-j-preserved
 loop-j-preserved c =
-    cells_more c.loop-j.cells c.args.list.now.values c.cell-of.result c.loop-j.j (omega arith) (omega (arith, c.requires.few, c.requires.long))
-    c.cell-of.ensures c.loop-j.invariant
+    cells_more c.loop-j.cells c.args.list.now.values c.cell_of.result c.loop-j.j (omega arith) (omega (arith, c.requires.few, c.requires.long))
+    c.cell_of.ensures c.loop-j.invariant
 
 pub returns : goal.returns
 returns c =

@@ -5,12 +5,12 @@ use Rattle.bodies.specs.NumberLists.{numbers, Begins}
 use Rattle.bodies.proofs.NumberLists.{list_more, list_stops}
 use Rattle.bodies.proofs.number_list.read_list.Goals as goal
 
-pub returns-in-err-read : goal.returns-in-err-read
-returns-in-err-read c =
+pub returns-in_err-read : goal.returns-in_err-read
+returns-in_err-read c =
     let inv = c.loop-j.invariant in
     let vs = take c.loop-j.j c.loop-j.values in
     let long = length-take-le c.loop-j.j c.loop-j.values (omega (arith, inv.2, c.requires)) in
-    let stop = list_stops vs c.args.body.now c.args.start c.loop-j.end c.args.count _ inv.0 inv.1 (omega arith) c.in-err-read.ensures in
+    let stop = list_stops vs c.args.body.now c.args.start c.loop-j.end c.args.count _ inv.0 inv.1 (omega arith) c.in_err-read.ensures in
     let p = err_from_is_err_and c.from-residual.result c.from-residual.ensures.1 in
     rw (p.1, p.2) stop
 
@@ -20,10 +20,10 @@ loop-j-preserved c =
     let j = c.loop-j.j in
     let values = c.loop-j.values in
     let vs = take j values in
-    let read = c.in-ok-read.read in
+    let read = c.in_ok-read.read in
     let body = c.args.body.now in
     let within : j < length values = omega (arith, inv.2, c.requires) in
-    let more = list_more vs body c.args.start c.loop-j.end read inv.0 inv.1 c.in-ok-read.ensures in
+    let more = list_more vs body c.args.start c.loop-j.end read inv.0 inv.1 c.in_ok-read.ensures in
     let next = sym (take_more_set values j read.value within) in (
       subst (λ (l : List ℕ). Begins l (drop c.args.start body)) next more.0,
       more.1 ∙ ap (λ (l : List ℕ). c.args.start + length (numbers l)) next,

@@ -35,9 +35,9 @@ loop-j-preserved g c k h =
       | in-Some w ↦
           (let same = w.sums-is in
           let weighted = w.mul-weighted.ensures in
-          let within : k < length w.add-powers.new.sums = omega (arith, ap length same) in
+          let within : k < length w.add_powers.new.sums = omega (arith, ap length same) in
           at_j (Some w.in-Some.letter) _ before w.in-Some.is so_far
-          (ap (λ (xs : List ℕ). get_or xs k 0) same ∙ w.add-powers.ensures k within
+          (ap (λ (xs : List ℕ). get_or xs k 0) same ∙ w.add_powers.ensures k within
           ∙ ap (λ x. A.plus before (times_power A x (get_or code.locators c.loop-j.j 0) k)) weighted))
       | in-default w ↦ at_j None _ before w.in-default.is so_far (ap (λ (xs : List ℕ). get_or xs k 0) w.sums-is)
     ]

@@ -3,7 +3,7 @@ use Rattle.std.proofs.lemmas.List.{at_drop_more, at_drop_all}
 use Rattle.std.proofs.lemmas.Bool.{both_ways, true≢false}
 use Rattle.codes.specs.Cells.{blanks, one_if_blank, blank_cell}
 use Rattle.codes.proofs.verdict.count_blanks.Goals as goal
-use Rattle.codes.proofs.verdict.count_blanks.Goals.{then-is-none, else-is-none}
+use Rattle.codes.proofs.verdict.count_blanks.Goals.{then-is_none, else-is_none}
 
 one_at_none : (letter : Option ℕ) → is_some letter ≡ false → one_if_blank letter ≡ 1
 one_at_none None e = refl
@@ -19,9 +19,9 @@ loop-cell-preserved c =
     let cells = c.args.cells.now in
     let letter = (get_or cells i blank_cell).letter in
     let more : blanks (drop i cells) ≡ one_if_blank letter + blanks (drop (i + 1) cells) = at_drop_more blanks cells i blank_cell c.loop-cell-test.true in
-    elim c.if-is-none.branch [
-      | then-is-none w ↦ (let here = one_at_none letter w.if-is-none.ensures in let count = w.count-is in omega arith)
-      | else-is-none w ↦ (let here = none_at_some letter w.if-is-none.ensures in let count = w.count-is in omega arith)
+    elim c.if-is_none.branch [
+      | then-is_none w ↦ (let here = one_at_none letter w.if-is_none.ensures in let count = w.count-is in omega arith)
+      | else-is_none w ↦ (let here = none_at_some letter w.if-is_none.ensures in let count = w.count-is in omega arith)
     ]
 
 pub returns : goal.returns

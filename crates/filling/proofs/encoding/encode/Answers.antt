@@ -15,7 +15,7 @@ returns g c =
     let alphabet = ap (λ (x : Code). x.letters) same in
     let rows = ap (λ (x : Code). x.rows) same in
     let cells = ap (λ (x : Code). length x.locators) same in
-    encoded c.requires letters c.args.word.now c.write-codeword.new.word (omega arith)
+    encoded c.requires letters c.args.word.now c.write_codeword.new.word (omega arith)
     (record { data_each = omega (arith, c.requires.shape.fewer_rows); a_place_each = omega arith })
-    (subst (λ size. AllBelow size letters) alphabet (c.if-not-all-below.ensures.0 refl))
-    (c.write-codeword.ensures ∙ ap₂ (λ f x. encoding (g.F.Field.meaning f) x letters) same-field same)
+    (subst (λ size. AllBelow size letters) alphabet (c.if-not-all_below.ensures.0 refl))
+    (c.write_codeword.ensures ∙ ap₂ (λ f x. encoding (g.F.Field.meaning f) x letters) same-field same)

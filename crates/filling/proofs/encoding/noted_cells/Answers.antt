@@ -6,7 +6,7 @@ use Rattle.filling.proofs.DataCells.{noted_more}
 use Rattle.filling.proofs.encoding.noted_cells.Goals as goal
 
 pub loop-j-init : goal.loop-j-init
-loop-j-init c = c.blank-cells-cells.ensures
+loop-j-init c = c.blank_cells-cells.ensures
 
 pub loop-j-preserved : goal.loop-j-preserved
 loop-j-preserved c =

@@ -8,15 +8,15 @@ use Rattle.codes.proofs.Codewords.{length_syndromes}
 use Rattle.filling.proofs.DataCells.{data_front, blanks_data_cells}
 use Rattle.filling.proofs.encoding.write_codeword.Goals as goal
 
-pub write-letters-requires : goal.write-letters-requires
-write-letters-requires g c =
+pub write_letters-requires : goal.write_letters-requires
+write_letters-requires g c =
     let code = code_of c.args.code in
     let letters = c.args.data.now in
     let shape = c.requires.checked.shape in
-    let cells = take (length code.locators - 0) c.noted-cells-array.result in
+    let cells = take (length code.locators - 0) c.noted_cells-array.result in
     let summed = rw c.unwrap.ensures at c.sums.ensures in
     let count : blanks cells ≡ code.rows =
-    ap blanks (data_front code letters c.noted-cells-array.result c.noted-cells-array.ensures c.requires.lengths.data_each
+    ap blanks (data_front code letters c.noted_cells-array.result c.noted_cells-array.ensures c.requires.lengths.data_each
     shape.most_cells)
     ∙ blanks_data_cells code letters in
     record {
@@ -38,5 +38,5 @@ returns g c =
     let code = code_of c.args.code in
     let summed = rw c.unwrap.ensures at c.sums.ensures in
     let cells =
-    data_front code c.args.data.now c.noted-cells-array.result c.noted-cells-array.ensures c.requires.lengths.data_each c.requires.checked.shape.most_cells in
-    c.write-letters.ensures ∙ ap₂ (filled m code) cells (summed.1 ∙ ap (syndromes m.arithmetic code) cells)
+    data_front code c.args.data.now c.noted_cells-array.result c.noted_cells-array.ensures c.requires.lengths.data_each c.requires.checked.shape.most_cells in
+    c.write_letters.ensures ∙ ap₂ (filled m code) cells (summed.1 ∙ ap (syndromes m.arithmetic code) cells)

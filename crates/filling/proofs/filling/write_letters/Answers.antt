@@ -17,8 +17,8 @@ loop-j-preserved g c k h =
     let j = c.loop-j.j in
     let from : List ℕ → ℕ = λ p.
     unwrap_or (get_or cells j blank_cell).letter (letter_from m p (number_at sums) (get_or code.locators j 0) (get_or code.multipliers j 0)) in
-    let letter : c.letter-of.result ≡ filled_letter m code cells sums j =
-    c.letter-of.ensures ∙ ap from c.blank-annihilator-product.ensures.product in
+    let letter : c.letter_of.result ≡ filled_letter m code cells sums j =
+    c.letter_of.ensures ∙ ap from c.blank_annihilator-product.ensures.product in
     ap (λ x. get_or (set word j x) k 0) letter
     ∙ fill_by_more (filled_letter m code cells sums) word j 0 (omega arith) c.loop-j.invariant k h
 

@@ -11,7 +11,7 @@ found row b (Some x) at = at.3.1 0
 
 pub returns-in-Some : goal.returns-in-Some
 returns-in-Some c =
-    c.unwrap-or.ensures
+    c.unwrap_or.ensures
     ∙ ap (λ (o : Option ℕ). unwrap_or o 0) c.copied.ensures
     ∙ found c.in-Some.row.now c.args.b c.get-in-Some.result c.get-in-Some.ensures.lookup
     ∙ ap (λ (row : List ℕ). get_or row c.args.b 0) (c.in-Some.ensures.lookup.3.1 [])

@@ -16,8 +16,8 @@ over_field row field fits made =
     let same = degree_unique row.origin fits.degree field.degree fits.origin.degree made.0.degree in
     subst (λ (m : Meaning). Checked m (row_code row)) (ap (λ (k : ℕ). with_inverses (modulo_polynomial row.origin k)) same ∙ sym made.1) fits.checked
 
-pub row-card-requires : goal.row-card-requires
-row-card-requires c = let checked = over_field c.args.row c.in-Ok.field c.requires c.in-Ok.ensures in search rules
+pub row_card-requires : goal.row_card-requires
+row_card-requires c = let checked = over_field c.args.row c.in-Ok.field c.requires c.in-Ok.ensures in search rules
 
 pub returns : goal.returns
 returns c = let checked = over_field c.args.row c.in-Ok.field c.requires c.in-Ok.ensures in search rules

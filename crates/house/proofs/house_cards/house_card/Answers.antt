@@ -6,12 +6,12 @@ use Rattle.house.specs.declared.house_rows.HouseRow.{HouseRow}
 use Rattle.house.proofs.HouseRows.{house_row_kinds}
 use Rattle.house.proofs.house_cards.house_card.Goals as goal
 
-pub prime-card-requires : goal.prime-card-requires
-prime-card-requires c =
-    let found = c.in-ok-row.ensures in
+pub prime_card-requires : goal.prime_card-requires
+prime_card-requires c =
+    let found = c.in_ok-row.ensures in
     subst⁻¹ PrimeRow found.1 ((house_row_kinds _ found.0).0 (ap (λ (row : HouseRow). row.kind) (sym found.1) ∙ c.if-row-eq-KIND.true))
 
-pub binary-card-requires : goal.binary-card-requires
-binary-card-requires c =
-    let found = c.in-ok-row.ensures in
+pub binary_card-requires : goal.binary_card-requires
+binary_card-requires c =
+    let found = c.in_ok-row.ensures in
     subst⁻¹ BinaryRow found.1 ((house_row_kinds _ found.0).1 (λ e. c.if-row-eq-KIND.false (ap (λ (row : HouseRow). row.kind) found.1 ∙ e)))

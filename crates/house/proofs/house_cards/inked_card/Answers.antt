@@ -2,5 +2,5 @@ use Rattle.std.proofs.Common.{rules}
 use Rattle.house.proofs.HouseRows.{all-rows}
 use Rattle.house.proofs.house_cards.inked_card.Goals as goal
 
-pub prime-card-requires : goal.prime-card-requires
-prime-card-requires c = search (rules, all-rows)
+pub prime_card-requires : goal.prime_card-requires
+prime_card-requires c = search (rules, all-rows)

@@ -2,5 +2,5 @@ use Rattle.std.proofs.Common.{rules}
 use Rattle.house.proofs.HouseRows.{all-rows}
 use Rattle.house.proofs.house_cards.punched_card.Goals as goal
 
-pub binary-card-requires : goal.binary-card-requires
-binary-card-requires c = search (rules, all-rows)
+pub binary_card-requires : goal.binary_card-requires
+binary_card-requires c = search (rules, all-rows)

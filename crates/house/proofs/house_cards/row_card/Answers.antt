@@ -18,13 +18,13 @@ small_locators m row checked =
     let long = length-range_with_len (rule_first row.locators) n in
     omega (arith, get_or-range_with_len (rule_first row.locators) n (n - 1) 0 (omega arith), checked.locators.element (n - 1) (omega arith), checked.laws.bounded)
 
-pub counting-from-locators-requires : goal.counting-from-locators-requires
-counting-from-locators-requires g c =
+pub counting_from-locators-requires : goal.counting_from-locators-requires
+counting_from-locators-requires g c =
     let checked = c.requires.checked in
     record { few = few_cells _ c.args.row checked; small = omega (arith, c.first.ensures, small_locators _ c.args.row checked) }
 
-pub multipliers-by-multipliers-requires : goal.multipliers-by-multipliers-requires
-multipliers-by-multipliers-requires g c = few_cells _ c.args.row c.requires.checked
+pub multipliers_by-multipliers-requires : goal.multipliers_by-multipliers-requires
+multipliers_by-multipliers-requires g c = few_cells _ c.args.row c.requires.checked
 
-pub slice-bounds-code-end : goal.slice-bounds-code-end
-slice-bounds-code-end g c = let few = few_cells _ c.args.row c.requires.checked in search rules
+pub slice_bounds-code-end : goal.slice_bounds-code-end
+slice_bounds-code-end g c = let few = few_cells _ c.args.row c.requires.checked in search rules

@@ -26,15 +26,15 @@ loop-place-init c =
     let count : enumerate_count c.into-iter-place-iterator.result ≡ 0 = ap enumerate_count it ∙ made.count in
     ((tt, tt, omega (arith, ap length rest)), tt, standing_start c.args.line.now _ _ u rest count, λ j h. absurd (omega arith))
 
-pub returns-then-is-none : goal.returns-then-is-none
-returns-then-is-none c =
+pub returns-then-is_none : goal.returns-then-is_none
+returns-then-is_none c =
     let step = c.in-Some.ensures.steps in
     let inv = c.loop-place.invariant in
     let next = standing_step c.args.line.now _ _ _ c.in-Some.mark inv.2 step.0.0 in
     let at = step.1 in
     let within = next.within in (
       omega arith,
-      ap (marked_cell c.args.letters) (ap (λ n. get_or (chars c.args.line.now) n 0) at ∙ next.is) ∙ sym c.marked.ensures ∙ none_of _ _ c.is-none.ensures c.if-is-none.true,
+      ap (marked_cell c.args.letters) (ap (λ n. get_or (chars c.args.line.now) n 0) at ∙ next.is) ∙ sym c.marked.ensures ∙ none_of _ _ c.is_none.ensures c.if-is_none.true,
       λ j h. inv.3 j (omega arith),
     )
 
@@ -48,7 +48,7 @@ loop-place-preserved c =
       tt,
       subst (Standing c.args.line.now _) (sym count) next.next,
       λ j h bad. ⊎_elim
-          (λ here. some_of _ _ c.is-none.ensures c.if-is-none.false (c.marked.ensures ∙ ap (marked_cell c.args.letters) (sym next.is ∙ ap (λ n. get_or (chars c.args.line.now) n 0) (sym here)) ∙ bad))
+          (λ here. some_of _ _ c.is_none.ensures c.if-is_none.false (c.marked.ensures ∙ ap (marked_cell c.args.letters) (sym next.is ∙ ap (λ n. get_or (chars c.args.line.now) n 0) (sym here)) ∙ bad))
           (λ before. inv.3 j (omega arith) bad) (cases_eq j (enumerate_count c.loop-place.place-iterator)),
     )
 

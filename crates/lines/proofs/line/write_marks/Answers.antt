@@ -27,8 +27,8 @@ bounds-cells-place c =
     let at = step.1 in
     omega arith
 
-pub offset-bounds-cells-place : goal.offset-bounds-cells-place
-offset-bounds-cells-place c =
+pub offset_bounds-cells-place : goal.offset_bounds-cells-place
+offset_bounds-cells-place c =
     let step = c.in-Some.ensures.steps in
     let inv = c.loop-place.invariant in
     let within = (standing_step c.args.line.now _ _ _ c.in-Some.mark inv.2 step.0.0).within in

@@ -5,17 +5,17 @@ use Rattle.numbers.proofs.number_reading.read_number.Goals as goal
 pub returns-then-start-bytes : goal.returns-then-start-bytes
 returns-then-start-bytes c = cut_none c.args.bytes.now c.args.start (omega arith)
 
-pub returns-then-first-lt-GOES-ON : goal.returns-then-first-lt-GOES-ON
-returns-then-first-lt-GOES-ON c = read_one c.args.bytes.now c.args.start (omega arith) (omega arith)
+pub returns-then-first-lt-GOES_ON : goal.returns-then-first-lt-GOES_ON
+returns-then-first-lt-GOES_ON c = read_one c.args.bytes.now c.args.start (omega arith) (omega arith)
 
 pub returns-then-start-bytes-2 : goal.returns-then-start-bytes-2
 returns-then-start-bytes-2 c = cut_one c.args.bytes.now c.args.start (omega arith) (omega arith) (omega arith)
 
-pub returns-then-ends-in-zero : goal.returns-then-ends-in-zero
-returns-then-ends-in-zero c = zero_last c.args.bytes.now c.args.start (omega arith) (omega arith) c.if-ends-in-zero.true
+pub returns-then-ends_in_zero : goal.returns-then-ends_in_zero
+returns-then-ends_in_zero c = zero_last c.args.bytes.now c.args.start (omega arith) (omega arith) c.if-ends_in_zero.true
 
-pub returns-then-second-lt-GOES-ON : goal.returns-then-second-lt-GOES-ON
-returns-then-second-lt-GOES-ON c =
+pub returns-then-second-lt-GOES_ON : goal.returns-then-second-lt-GOES_ON
+returns-then-second-lt-GOES_ON c =
     read_two c.args.bytes.now c.args.start (omega arith) (omega arith) (omega arith) (omega arith) (omega arith)
 
 pub returns-then-start-bytes-3 : goal.returns-then-start-bytes-3
@@ -24,8 +24,8 @@ returns-then-start-bytes-3 c = cut_two c.args.bytes.now c.args.start (omega arit
 pub returns-then-third-eq0 : goal.returns-then-third-eq0
 returns-then-third-eq0 c = third_zero c.args.bytes.now c.args.start (omega arith) (omega arith) (omega arith) c.if-third-eq0.true
 
-pub returns-then-value-gt-LARGEST-NUMBER : goal.returns-then-value-gt-LARGEST-NUMBER
-returns-then-value-gt-LARGEST-NUMBER c =
+pub returns-then-value-gt-LARGEST_NUMBER : goal.returns-then-value-gt-LARGEST_NUMBER
+returns-then-value-gt-LARGEST_NUMBER c =
     third_large c.args.bytes.now c.args.start (omega arith) (omega arith) (omega arith) (omega arith)
 
 pub returns : goal.returns

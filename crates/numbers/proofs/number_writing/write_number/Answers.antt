@@ -5,15 +5,15 @@ use Rattle.numbers.proofs.WrittenBytes.{put_one, put_two, put_three, is_one, is_
 use Rattle.numbers.proofs.number_writing.write_number.Goals as goal
 use Rattle.numbers.proofs.number_writing.write_number.Goals.{then-start-buffer-via-then-start-buffer, then-start-buffer-via-else-start-buffer+then-buffer-start, then-size-eq1, else-size-eq1+then-size-eq2, else-size-eq1+else-size-eq2}
 
-pub returns-then-value-gt-LARGEST-NUMBER : goal.returns-then-value-gt-LARGEST-NUMBER
-returns-then-value-gt-LARGEST-NUMBER c = record { written = (c.if-value-gt-LARGEST-NUMBER.true, refl); back = reads_back }
+pub returns-then-value-gt-LARGEST_NUMBER : goal.returns-then-value-gt-LARGEST_NUMBER
+returns-then-value-gt-LARGEST_NUMBER c = record { written = (c.if-value-gt-LARGEST_NUMBER.true, refl); back = reads_back }
 
 pub returns-then-start-buffer : goal.returns-then-start-buffer
 returns-then-start-buffer c =
     record {
       written = (
         (
-          c.if-value-gt-LARGEST-NUMBER.false,
+          c.if-value-gt-LARGEST_NUMBER.false,
           elim c.then-start-buffer.branch [ then-start-buffer-via-then-start-buffer w ↦ omega arith | then-start-buffer-via-else-start-buffer+then-buffer-start w ↦ omega arith ],
         ),
         refl,
@@ -21,15 +21,15 @@ returns-then-start-buffer c =
       back = reads_back;
     }
 
-pub overflow-cast-buffer : goal.overflow-cast-buffer
-overflow-cast-buffer c = let o = is_one c.args.value (sym c.number-length-size.ensures ∙ c.if-size-eq1.true) in omega arith
+pub overflow_cast-buffer : goal.overflow_cast-buffer
+overflow_cast-buffer c = let o = is_one c.args.value (sym c.number_length-size.ensures ∙ c.if-size-eq1.true) in omega arith
 
-pub overflow-cast-buffer-then-size-eq2-2 : goal.overflow-cast-buffer-then-size-eq2-2
-overflow-cast-buffer-then-size-eq2-2 c = let o = is_two c.args.value (sym c.number-length-size.ensures ∙ c.if-size-eq2.true) in omega arith
+pub overflow_cast-buffer-then-size-eq2-2 : goal.overflow_cast-buffer-then-size-eq2-2
+overflow_cast-buffer-then-size-eq2-2 c = let o = is_two c.args.value (sym c.number_length-size.ensures ∙ c.if-size-eq2.true) in omega arith
 
-three : (c : goal.Else-size-eq2) → c.number-length-size.result ≡ 3
+three : (c : goal.Else-size-eq2) → c.number_length-size.result ≡ 3
 three c =
-    let long = c.number-length-size.ensures in
+    let long = c.number_length-size.ensures in
     long ∙ (is_three c.args.value (λ e. c.if-size-eq1.false (long ∙ e)) (λ e. c.if-size-eq2.false (long ∙ e))).1
 
 pub bounds-buffer-start-else-size-eq2 : goal.bounds-buffer-start-else-size-eq2
@@ -46,7 +46,7 @@ returns c =
     let v = c.args.value in
     let start = c.args.start in
     let buffer = c.args.buffer.now in
-    let long = c.number-length-size.ensures in
+    let long = c.number_length-size.ensures in
     record {
       written = (
         omega arith,

@@ -47,10 +47,10 @@ returns g c =
         record { sequence_short = short; f_places = omega arith; w_places = omega arith },
         elements,
         ap (λ (st : State). st.degree) last,
-        c.copy-from-slice.ensures.after ∙ ap (λ (st : State). st.pair.f.coeffs) last,
-        c.copy-from-slice-2.ensures.after ∙ ap (λ (st : State). st.pair.w.coeffs) last,
+        c.copy_from_slice.ensures.after ∙ ap (λ (st : State). st.pair.f.coeffs) last,
+        c.copy_from_slice-2.ensures.after ∙ ap (λ (st : State). st.pair.w.coeffs) last,
       );
       minimal = λ accepted.
-          subst₂ (λ (f w : List ℕ). Minimal A s c.loop-i.state.degree f w) (sym c.copy-from-slice.ensures.after) (sym c.copy-from-slice-2.ensures.after)
+          subst₂ (λ (f w : List ℕ). Minimal A s c.loop-i.state.degree f w) (sym c.copy_from_slice.ensures.after) (sym c.copy_from_slice-2.ensures.after)
           (subst⁻¹ (MinimalState A s) last (minimal_after (g.met.F.Field.lawful c.args.field.now accepted) s elements short));
     }

@@ -12,10 +12,10 @@ loop-j-preserved g c =
     let inv = c.loop-j.invariant in
     let bound = c.requires in
     let within : j < length c.loop-j.coeffs = omega (arith, inv.0, c.loop-j-test.true) in (
-      length-set c.loop-j.coeffs j c.combine-at.result ∙ inv.0,
+      length-set c.loop-j.coeffs j c.combine_at.result ∙ inv.0,
       below_more _ _
           (λ k h. let other : k ≢ j = omega arith in rw get_or-set_other (inv.1 k h))
-          (get_or-set_same c.loop-j.coeffs j c.combine-at.result 0 within ∙ c.combine-at.ensures),
+          (get_or-set_same c.loop-j.coeffs j c.combine_at.result 0 within ∙ c.combine_at.ensures),
       λ k h. let other : k ≢ j = omega arith in rw get_or-set_other (inv.2 k (omega arith)),
     )
 

@@ -16,7 +16,7 @@ decode-requires g c =
       checked = subst₂ (λ (field : g.row.F.Denot) (code : Code). Checked (g.F.Field.meaning field) code) (sym c.field.ensures) (sym same) c.requires.checked;
       long = long ∙ ap (λ (code : Code). length code.locators) (sym same);
       lettered = subst (λ (code : Code). Lettered code.letters cells) (sym same) c.requires.lettered;
-      counted = c.count-blanks-blank.ensures;
+      counted = c.count_blanks-blank.ensures;
       few = omega arith;
       room = omega (arith, ap (λ (code : Code). length code.locators) same, c.cells.ensures.each);
     }
@@ -28,8 +28,8 @@ returns-in-Some g c =
     let code = card_code card in
     let cells = c.args.cells.now in
     let long : length cells ≡ length code.locators = c.requires.long ∙ sym c.cells.ensures.count ∙ c.cells.ensures.each in
-    let decoded : Decoded m.arithmetic code cells c.copy-from-slice.new.self (Some c.in-Some.wrong) =
-    subst (λ (word : List ℕ). Decoded m.arithmetic code cells word (Some c.in-Some.wrong)) (sym c.copy-from-slice.ensures.after)
+    let decoded : Decoded m.arithmetic code cells c.copy_from_slice.new.self (Some c.in-Some.wrong) =
+    subst (λ (word : List ℕ). Decoded m.arithmetic code cells word (Some c.in-Some.wrong)) (sym c.copy_from_slice.ensures.after)
     (subst₂ (λ (field : g.row.F.Denot) (code : Code). Decoded (g.F.Field.meaning field).arithmetic code cells c.decode.new.word (Some c.in-Some.wrong))
     c.field.ensures c.code-code.ensures c.in-Some.ensures) in
-    (omega (arith, c.cells.ensures.each), decoded.0, (λ word near. near_only m code c.requires.checked cells long c.requires.lettered word _ near decoded.0), decoded.1, c.count-blanks-blank.ensures)
+    (omega (arith, c.cells.ensures.each), decoded.0, (λ word near. near_only m code c.requires.checked cells long c.requires.lettered word _ near decoded.0), decoded.1, c.count_blanks-blank.ensures)

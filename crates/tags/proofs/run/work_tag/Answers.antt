@@ -29,7 +29,7 @@ returns-in-default g c =
 pub loop-events-preserved : goal.loop-events-preserved
 loop-events-preserved g c =
     let inv = c.loop-events.invariant in
-    let made = c.make-call.ensures in
+    let made = c.make_call.ensures in
     let picks = g.W.Worker.picks in
     let card = c.args.card.now in
     let code = card_code card in
@@ -37,7 +37,7 @@ loop-events-preserved g c =
     let journal = c.loop-events.journal in
     let events = c.loop-events.events in
     let so_far = take events journal in
-    let e = c.make-call.result in
+    let e = c.make_call.result in
     let place : events < length journal = omega arith in
     let more : take (events + 1) (set journal events e) ≡ so_far ++ (e ∷ []) = take_more_set journal events e place in
     let seen : take (events - 0) journal ≡ so_far = ap (λ n. take n journal) (omega arith) in (

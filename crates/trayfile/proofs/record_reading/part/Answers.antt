@@ -4,4 +4,4 @@ use Rattle.trayfile.proofs.record_reading.part.Goals as goal
 
 pub returns : goal.returns
 returns c =
-    c.split-at-2.ensures.back ∙ ap (drop c.args.start) c.split-at.ensures.front ∙ sym (between_is c.args.file.now c.args.start c.args.end)
+    c.split_at-2.ensures.back ∙ ap (drop c.args.start) c.split_at.ensures.front ∙ sym (between_is c.args.file.now c.args.start c.args.end)

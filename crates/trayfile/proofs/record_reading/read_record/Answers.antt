@@ -11,7 +11,7 @@ use Rattle.trayfile.proofs.record_reading.read_record.Goals as goal
 
 pub part-requires : goal.part-requires
 part-requires c =
-    let h = c.in-ok-header.ensures in
+    let h = c.in_ok-header.ensures in
     record { order = order _ _ _ _ h; within = within _ _ _ _ h }
 
 fits : (task : Task) (body : List ℕ) (start : ℕ) (fault : BodyFault) → BodyRefused task body fault → start + length body < 2 ^ 64 → BodyPlaceFits start fault
@@ -22,22 +22,22 @@ fits task body start (Field cause) refused room = tt
 fits task body start (Card cause) refused room = tt
 fits task body start (Tag cause) refused room = tt
 
-pub placed-body-requires : goal.placed-body-requires
-placed-body-requires c =
-    let h = c.in-ok-header.ensures in
-    let header = c.in-ok-header.header in
+pub placed_body-requires : goal.placed_body-requires
+placed_body-requires c =
+    let h = c.in_ok-header.ensures in
+    let header = c.in_ok-header.header in
     let long = ap length c.part.ensures ∙ body_long _ _ _ _ h in
     let last = within _ _ _ _ h in
     fits header.task c.part.result.now header.body c.in-Err.fault c.in-Err.ensures (omega (arith, h.end_place))
 
 pub returns-in-Ok : goal.returns-in-Ok
 returns-in-Ok c =
-    let h = c.in-ok-header.ensures in
-    let header = c.in-ok-header.header in
+    let h = c.in_ok-header.ensures in
+    let header = c.in_ok-header.header in
     step_in _ _ _ _ h c.in-Ok.after (subst (λ (l : List ℕ). Done header.task l c.in-Ok.after) c.part.ensures c.in-Ok.ensures)
 
 pub returns-in-Err : goal.returns-in-Err
 returns-in-Err c =
-    let h = c.in-ok-header.ensures in
-    let header = c.in-ok-header.header in
-    inr (body_wrong _ _ _ _ h c.in-Err.fault _ (subst (λ (l : List ℕ). BodyRefused header.task l c.in-Err.fault) c.part.ensures c.in-Err.ensures) c.placed-body.ensures)
+    let h = c.in_ok-header.ensures in
+    let header = c.in_ok-header.header in
+    inr (body_wrong _ _ _ _ h c.in-Err.fault _ (subst (λ (l : List ℕ). BodyRefused header.task l c.in-Err.fault) c.part.ensures c.in-Err.ensures) c.placed_body.ensures)

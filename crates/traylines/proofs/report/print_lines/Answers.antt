@@ -3,4 +3,4 @@ use Rattle.traylines.proofs.Advances.{fewer_stepped}
 use Rattle.traylines.proofs.report.print_lines.Goals as goal
 
 pub records-smaller : goal.records-smaller
-records-smaller c = fewer_stepped _ _ _ c.step-step.ensures (sym c.if-not-goes-on.ensures)
+records-smaller c = fewer_stepped _ _ _ c.step-step.ensures (sym c.if-not-goes_on.ensures)

@@ -11,16 +11,16 @@ use Rattle.traywriter.proofs.WritableValues.{writable}
 use Rattle.traywriter.proofs.WrittenRecords.{card_comes_back, accepted_is_written}
 use Rattle.traywriter.proofs.card_writing.write_card.Goals as goal
 
-pub write-values-requires : goal.write-values-requires
-write-values-requires c =
+pub write_values-requires : goal.write_values-requires
+write_values-requires c =
     let card = c.in-Prime.card in
     let origin = c.prime.ensures ∙ ap (λ (f : PrimeField). f.prime) c.field.ensures in
     let small = listed_small card.field.prime card.field.listed in
     subst (λ (code : Code). Writable 1 c.prime.result code) (sym c.code.ensures)
     (writable (prime_meaning card.field) 1 c.prime.result (card_code card) (subst CheckedCard c.in-Prime.is c.requires) (omega arith) (omega arith))
 
-pub write-values-requires-in-Binary : goal.write-values-requires-in-Binary
-write-values-requires-in-Binary c =
+pub write_values-requires-in-Binary : goal.write_values-requires-in-Binary
+write_values-requires-in-Binary c =
     let card = c.in-Binary.card in
     let origin = c.modulus.ensures ∙ ap (λ (f : BinaryField). f.modulus) c.field-in-Binary.ensures in
     let small = card.field.bounded in

@@ -6,5 +6,5 @@ use Rattle.traywriter.proofs.card_writing.write_values.Goals as goal
 
 pub returns : goal.returns
 returns c =
-    subst (λ (l : List ℕ). RecordWritten 1 l c.args.buffer.now c.write-numbers.new.buffer c.write-numbers.result)
-    (card_parts c.args.kind c.args.origin (code_of c.args.code)) c.write-numbers.ensures
+    subst (λ (l : List ℕ). RecordWritten 1 l c.args.buffer.now c.write_numbers.new.buffer c.write_numbers.result)
+    (card_parts c.args.kind c.args.origin (code_of c.args.code)) c.write_numbers.ensures

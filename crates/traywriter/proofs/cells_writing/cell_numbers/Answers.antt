@@ -11,8 +11,8 @@ loop-j-preserved c =
     let numbers = c.loop-j.numbers in
     let j = c.loop-j.j in
     let inv = c.loop-j.invariant in (
-      take_more_set numbers j c.number-of.result (omega (arith, inv.1, c.requires.few))
-          ∙ ap₂ (λ (l : List ℕ) x. l ++ x ∷ []) inv.0 c.number-of.ensures ∙ sym (map_more cell_number cells j _ c.loop-j-test.true),
+      take_more_set numbers j c.number_of.result (omega (arith, inv.1, c.requires.few))
+          ∙ ap₂ (λ (l : List ℕ) x. l ++ x ∷ []) inv.0 c.number_of.ensures ∙ sym (map_more cell_number cells j _ c.loop-j-test.true),
       simp length-set inv.1,
     )
 

@@ -10,12 +10,12 @@ use Rattle.traywriter.specs.ReadingBack.{CellsComeBack}
 use Rattle.traywriter.proofs.WrittenRecords.{cells_come_back, made_always}
 use Rattle.traywriter.proofs.cells_writing.write_cells.Goals as goal
 
-pub write-numbers-requires : goal.write-numbers-requires
-write-numbers-requires g c =
+pub write_numbers-requires : goal.write_numbers-requires
+write_numbers-requires g c =
     let cells = c.args.cells.now in
-    let made = c.cell-numbers-numbers.ensures in
+    let made = c.cell_numbers-numbers.ensures in
     let count : length c.code-code.result.locators.now - 0 ≡ length cells = omega (arith, c.if-cells-count.false) in
-    let head = ap (λ n. take n c.cell-numbers-numbers.result) count ∙ made.front in
+    let head = ap (λ n. take n c.cell_numbers-numbers.result) count ∙ made.front in
     let letters : c.code-code.result.letters ≤ largest_size = omega (arith, ap (λ (x : Code). x.letters) c.code-code.ensures, c.requires.alphabet.elements, c.requires.laws.bounded) in
     let cells-few : length (map cell_number cells) ≤ largest_cells = omega (arith, c.if-cells-count.false, ap (λ (x : Code). length x.locators) c.code-code.ensures, c.requires.shape.most_cells, length-map cells cell_number) in
     one_list _ (map cell_number cells) head refl refl cells-few (small_cells c.code-code.result.letters cells letters (c.if-not-lettered.ensures.0 refl))
@@ -23,15 +23,15 @@ write-numbers-requires g c =
 pub returns : goal.returns
 returns g c =
     let cells = c.args.cells.now in
-    let made = c.cell-numbers-numbers.ensures in
+    let made = c.cell_numbers-numbers.ensures in
     let same = c.code-code.ensures in
     let count : length c.code-code.result.locators.now - 0 ≡ length cells = omega (arith, c.if-cells-count.false) in
-    let head = ap (λ n. take n c.cell-numbers-numbers.result) count ∙ made.front in
+    let head = ap (λ n. take n c.cell_numbers-numbers.result) count ∙ made.front in
     let code = card_code c.args.card.now in
     let all = c.if-cells-count.false ∙ ap (λ (x : Code). length x.locators) same in
     let lettered = subst (λ n. Lettered n cells) (ap (λ (x : Code). x.letters) same) (c.if-not-lettered.ensures.0 refl) in
     record {
-      written = cells_written code cells _ c.args.buffer.now c.write-numbers.new.buffer c.write-numbers.result all lettered
-          (one_list_bytes _ _ _ (map cell_number cells) head refl refl) c.write-numbers.ensures;
-      back = made_always c.write-numbers.result (CellsComeBack code cells) (cells_come_back (g.F.Field.meaning c.args.card.now.field) code cells c.requires all lettered);
+      written = cells_written code cells _ c.args.buffer.now c.write_numbers.new.buffer c.write_numbers.result all lettered
+          (one_list_bytes _ _ _ (map cell_number cells) head refl refl) c.write_numbers.ensures;
+      back = made_always c.write_numbers.result (CellsComeBack code cells) (cells_come_back (g.F.Field.meaning c.args.card.now.field) code cells c.requires all lettered);
     }

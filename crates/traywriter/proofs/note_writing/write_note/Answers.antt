@@ -6,8 +6,8 @@ use Rattle.traywriter.proofs.note_writing.write_note.Goals as goal
 pub returns : goal.returns
 returns c =
     let note = c.args.note.now in
-    let plain = c.if-not-is-plain.ensures.0 refl in
+    let plain = c.if-not-is_plain.ensures.0 refl in
     record {
-      written = note_written note c.args.buffer.now c.write-bytes.new.buffer c.write-bytes.result plain c.write-bytes.ensures;
-      back = made_always c.write-bytes.result (NoteComesBack note) (note_comes_back note plain);
+      written = note_written note c.args.buffer.now c.write_bytes.new.buffer c.write_bytes.result plain c.write_bytes.ensures;
+      back = made_always c.write_bytes.result (NoteComesBack note) (note_comes_back note plain);
     }

@@ -4,18 +4,18 @@ use Rattle.bodies.specs.NumberLists.{numbers}
 use Rattle.traywriter.proofs.Puts.{three_at_most, length_more}
 use Rattle.traywriter.proofs.number_writing.list_length.Goals as goal
 
-pub overflow-add-size : goal.overflow-add-size
-overflow-add-size c =
+pub overflow_add-size : goal.overflow_add-size
+overflow_add-size c =
     let list = c.args.list.now in
     let j = c.loop-value.value-index in
-    omega (arith, c.loop-value.invariant.1, c.number-length-size.ensures, three_at_most (get_or list j 0), c.requires)
+    omega (arith, c.loop-value.invariant.1, c.number_length-size.ensures, three_at_most (get_or list j 0), c.requires)
 
 pub loop-value-preserved : goal.loop-value-preserved
 loop-value-preserved c =
     let list = c.args.list.now in
     let j = c.loop-value.value-index in
     let inv = c.loop-value.invariant in
-    let one = c.number-length-size.ensures in
+    let one = c.number_length-size.ensures in
     let more = length_more list j (omega arith) in
     (omega (arith, inv.0), omega (arith, inv.1, three_at_most (get_or list j 0)))
 

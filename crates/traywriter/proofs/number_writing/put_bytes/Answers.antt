@@ -10,6 +10,6 @@ returns c =
     let size : start + length bytes - start ≡ length bytes = omega arith in
     record {
       place = refl;
-      bytes = ap₂ (λ (l : List ℕ) n. take start buffer ++ (l ++ drop n (drop start buffer))) c.copy-from-slice.ensures.after size
+      bytes = ap₂ (λ (l : List ℕ) n. take start buffer ++ (l ++ drop n (drop start buffer))) c.copy_from_slice.ensures.after size
           ∙ ap (λ (l : List ℕ). take start buffer ++ (bytes ++ l)) (drop-drop (length bytes) start buffer);
     }

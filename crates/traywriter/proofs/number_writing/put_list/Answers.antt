@@ -10,8 +10,8 @@ use Rattle.traywriter.proofs.number_writing.put_list.Goals as goal
 pub loop-value-init : goal.loop-value-init
 loop-value-init c = (sym (add-zero c.args.start), sym (put_none c.args.start c.args.buffer.now))
 
-pub put-one-end-requires : goal.put-one-end-requires
-put-one-end-requires c =
+pub put_one-end-requires : goal.put_one-end-requires
+put_one-end-requires c =
     let list = c.args.list.now in
     let j = c.loop-value.value-index in
     let inv = c.loop-value.invariant in
@@ -26,7 +26,7 @@ loop-value-preserved c =
     let inv = c.loop-value.invariant in
     let more = length_more list j (omega arith) in
     let within = front_within list j in
-    let put = c.put-one-end.ensures in (
+    let put = c.put_one-end.ensures in (
       omega (arith, inv.0, put.place),
       put_next c.args.start c.loop-value.end (numbers (take j list)) (number_bytes (get_or list j 0)) c.args.buffer.now c.loop-value.buffer _ inv.0 inv.1 put.bytes
           (omega (arith, c.requires.room))

@@ -6,19 +6,19 @@ use Rattle.traywriter.proofs.Puts.{put_next}
 use Rattle.traywriter.proofs.RecordPuts.{kind_small, header_long}
 use Rattle.traywriter.proofs.record_writing.put_header.Goals as goal
 
-pub put-one-length-place-requires : goal.put-one-length-place-requires
-put-one-length-place-requires c =
+pub put_one-length_place-requires : goal.put_one-length_place-requires
+put_one-length_place-requires c =
     let k = kind_number c.args.kind in
     let long = header_long k c.args.size in
     let same = ap (λ n. length (number_bytes n)) c.number.ensures in
     record { small = omega (arith, c.number.ensures, kind_small c.args.kind); room = omega (arith, c.requires.room) }
 
-pub put-one-body-place-requires : goal.put-one-body-place-requires
-put-one-body-place-requires c =
+pub put_one-body_place-requires : goal.put_one-body_place-requires
+put_one-body_place-requires c =
     let k = kind_number c.args.kind in
     let long = header_long k c.args.size in
     let same = ap (λ n. length (number_bytes n)) c.number.ensures in
-    record { small = c.requires.small; room = omega (arith, c.requires.room, c.put-one-length-place.ensures.place, c.put-one-length-place.auto.buffer) }
+    record { small = c.requires.small; room = omega (arith, c.requires.room, c.put_one-length_place.ensures.place, c.put_one-length_place.auto.buffer) }
 
 pub returns : goal.returns
 returns c =
@@ -26,12 +26,12 @@ returns c =
     let size = c.args.size in
     let long = header_long k size in
     let same = ap (λ n. length (number_bytes n)) c.number.ensures in
-    let first = c.put-one-length-place.ensures in
-    let second = c.put-one-body-place.ensures in
+    let first = c.put_one-length_place.ensures in
+    let second = c.put_one-body_place.ensures in
     let buffer = c.args.buffer.now in
     record {
       place = omega (arith, first.place, second.place);
-      bytes = put_next 0 c.put-one-length-place.result (number_bytes c.number.result) (number_bytes size) buffer c.put-one-length-place.new.buffer _ first.place first.bytes
+      bytes = put_next 0 c.put_one-length_place.result (number_bytes c.number.result) (number_bytes size) buffer c.put_one-length_place.new.buffer _ first.place first.bytes
           second.bytes (omega (arith, c.requires.room))
           ∙ ap (λ n. put_at 0 (number_bytes n ++ number_bytes size) buffer) c.number.ensures;
     }

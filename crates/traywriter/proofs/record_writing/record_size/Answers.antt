@@ -5,16 +5,16 @@ use Rattle.traywriter.proofs.Puts.{three_at_most}
 use Rattle.traywriter.proofs.RecordPuts.{header_long}
 use Rattle.traywriter.proofs.record_writing.record_size.Goals as goal
 
-pub overflow-add-result : goal.overflow-add-result
-overflow-add-result c =
-    omega (arith, c.number-length.ensures, c.number-length-2.ensures, three_at_most c.number.result, three_at_most c.args.size)
+pub overflow_add-result : goal.overflow_add-result
+overflow_add-result c =
+    omega (arith, c.number_length.ensures, c.number_length-2.ensures, three_at_most c.number.result, three_at_most c.args.size)
 
-pub overflow-add-result-2 : goal.overflow-add-result-2
-overflow-add-result-2 c =
-    omega (arith, c.requires, c.number-length.ensures, c.number-length-2.ensures, three_at_most c.number.result, three_at_most c.args.size)
+pub overflow_add-result-2 : goal.overflow_add-result-2
+overflow_add-result-2 c =
+    omega (arith, c.requires, c.number_length.ensures, c.number_length-2.ensures, three_at_most c.number.result, three_at_most c.args.size)
 
 pub returns : goal.returns
 returns c =
     let long = header_long (kind_number c.args.kind) c.args.size in
     let same = ap (λ n. length (number_bytes n)) c.number.ensures in
-    omega (arith, c.number-length.ensures, c.number-length-2.ensures)
+    omega (arith, c.number_length.ensures, c.number_length-2.ensures)

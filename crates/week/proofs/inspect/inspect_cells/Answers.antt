@@ -14,18 +14,18 @@ right_lengths cells twenty = record { a_multiplier_each = refl; a_cell_each = tw
 
 pub unreachable-requires : goal.unreachable-requires
 unreachable-requires c =
-    let values = c.code.ensures ∙ c.inked-card-card.ensures.values in
+    let values = c.code.ensures ∙ c.inked_card-card.ensures.values in
     let twenty : length c.args.cells ≡ 20 = search rules in
     c.in-default.ensures.1
     (subst (λ (code : Code). Lengths code c.args.cells (0 ∷ 0 ∷ 0 ∷ 0 ∷ 0 ∷ 0 ∷ 0 ∷ 0 ∷ [])) (sym values) (right_lengths _ twenty))
 
 pub returns : goal.returns
 returns c =
-    let values = c.code.ensures ∙ c.inked-card-card.ensures.values in
-    let meaning = ap (λ (field : PrimeField). modulo field.prime) c.field.ensures ∙ ap modulo c.inked-card-card.ensures.made_from in
+    let values = c.code.ensures ∙ c.inked_card-card.ensures.values in
+    let meaning = ap (λ (field : PrimeField). modulo field.prime) c.field.ensures ∙ ap modulo c.inked_card-card.ensures.made_from in
     let judged = c.in-Ok.ensures in
     record {
       cells_are = refl;
-      sums_are = subst₂ (λ (A : Arithmetic) (code : Code). c.judge.new.row-sums ≡ syndromes A code c.args.cells) meaning values judged.1;
+      sums_are = subst₂ (λ (A : Arithmetic) (code : Code). c.judge.new.row_sums ≡ syndromes A code c.args.cells) meaning values judged.1;
       verdict_is = subst₂ (λ (A : Arithmetic) (code : Code). Judged A code c.args.cells c.in-Ok.verdict) meaning values judged.2;
     }

@@ -18,30 +18,30 @@ use Rattle.wholeweek.proofs.friday.read_found.Goals as goal
 
 pub returns-in-Err : goal.returns-in-Err
 returns-in-Err c =
-    let card = c.inked-card-card.ensures in
-    let play = c.play-script.ensures in
-    let by = noted_by _ (card_code c.inked-card-card.result) c.args.line _ _ _ c.line-answer-noted.result _ _ play.events c.play-script.auto.journal play.calls play.law
-    (c.line-answer-noted.ensures c.args.line) (c.read-answer-answer.ensures 20) in
+    let card = c.inked_card-card.ensures in
+    let play = c.play_script.ensures in
+    let by = noted_by _ (card_code c.inked_card-card.result) c.args.line _ _ _ c.line_answer-noted.result _ _ play.events c.play_script.auto.journal play.calls play.law
+    (c.line_answer-noted.ensures c.args.line) (c.read_answer-answer.ensures 20) in
     ap (λ (code : Code). refusal_of_line code (chars c.args.line.now)) (sym card.values) ∙ sym by ∙ ap (refused line_number) c.in-Err.is
 
 pub returns-in-Ok : goal.returns-in-Ok
 returns-in-Ok c =
-    let card = c.inked-card-card.ensures in
-    let play = c.play-script.ensures in
-    let buffer = c.read-answer-answer.result.1 in
+    let card = c.inked_card-card.ensures in
+    let play = c.play_script.ensures in
+    let buffer = c.read_answer-answer.result.1 in
     let cells = marked_cells 37 (chars c.args.line.now) in
-    let by = read_under _ (card_code c.inked-card-card.result) c.args.line _ _ _ c.line-answer-noted.result c.read-answer-answer.result.0 buffer play.events c.play-script.auto.journal play.calls play.law
-    (c.line-answer-noted.ensures c.args.line) (c.read-answer-answer.ensures 20) (modulo 37) (row_code inked) _ (ap modulo card.made_from) card.values c.in-default.is in
+    let by = read_under _ (card_code c.inked_card-card.result) c.args.line _ _ _ c.line_answer-noted.result c.read_answer-answer.result.0 buffer play.events c.play_script.auto.journal play.calls play.law
+    (c.line_answer-noted.ensures c.args.line) (c.read_answer-answer.ensures 20) (modulo 37) (row_code inked) _ (ap modulo card.made_from) card.values c.in-default.is in
     let reading = subst₂ (λ (word : List ℕ) (answer : Result Counts ReadRefusal). Reading (modulo 37) (row_code inked) cells (take 20 fresh_buffer) word answer) (sym c.front.ensures) c.in-Ok.is by.1 in
     (by.0, granted_in (modulo 37) (row_code inked) cells (take 20 fresh_buffer) c.front.result empty_word c.in-Ok.counts refl reading)
 
 pub returns-in-Err-answer : goal.returns-in-Err-answer
 returns-in-Err-answer c =
-    let card = c.inked-card-card.ensures in
-    let play = c.play-script.ensures in
-    let buffer = c.read-answer-answer.result.1 in
+    let card = c.inked_card-card.ensures in
+    let play = c.play_script.ensures in
+    let buffer = c.read_answer-answer.result.1 in
     let cells = marked_cells 37 (chars c.args.line.now) in
-    let by = read_under _ (card_code c.inked-card-card.result) c.args.line _ _ _ c.line-answer-noted.result c.read-answer-answer.result.0 buffer play.events c.play-script.auto.journal play.calls play.law
-    (c.line-answer-noted.ensures c.args.line) (c.read-answer-answer.ensures 20) (modulo 37) (row_code inked) _ (ap modulo card.made_from) card.values c.in-default.is in
+    let by = read_under _ (card_code c.inked_card-card.result) c.args.line _ _ _ c.line_answer-noted.result c.read_answer-answer.result.0 buffer play.events c.play_script.auto.journal play.calls play.law
+    (c.line_answer-noted.ensures c.args.line) (c.read_answer-answer.ensures 20) (modulo 37) (row_code inked) _ (ap modulo card.made_from) card.values c.in-default.is in
     let reading = subst (λ (answer : Result Counts ReadRefusal). Reading (modulo 37) (row_code inked) cells (take 20 fresh_buffer) (take 20 buffer) answer) c.in-Err-answer.is by.1 in
     (by.0, refused_in (modulo 37) (row_code inked) cells (take 20 fresh_buffer) (take 20 buffer) empty_word c.in-Err-answer.refusal refl reading)

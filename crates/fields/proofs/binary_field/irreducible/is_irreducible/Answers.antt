@@ -12,20 +12,20 @@ limit m h =
     let p : 2 ^ suc (m / 2) ≤ 2 ^ 31 = pow_mono {i = suc (m / 2)} {j = 31} (omega arith) in
     mod-eq_of_lt (omega (arith, pow-succ' 2 (m / 2))) ∙ sym (pow-succ' 2 (m / 2))
 
-pub returns-then-remainder-of-eq0 : goal.returns-then-remainder-of-eq0
-returns-then-remainder-of-eq0 c =
+pub returns-then-remainder_of-eq0 : goal.returns-then-remainder_of-eq0
+returns-then-remainder_of-eq0 c =
     let (k, d) = has_degree c.loop-divisor.divisor (omega arith) in
-    let r = c.remainder-of.ensures k d in
+    let r = c.remainder_of.ensures k d in
     let z : remainder c.loop-divisor.divisor k c.args.f ≡ 0 = omega arith in
-    let l = limit c.degree-of.result c.degree-of.ensures.below in (
+    let l = limit c.degree_of.result c.degree_of.ensures.below in (
       λ e. absurd (false≢true e),
-      λ i. absurd (trial_found c.args.f c.degree-of.result c.loop-divisor.divisor k c.degree-of.ensures.degree (omega arith) (omega (arith, c.loop-divisor-test.true)) d z i),
+      λ i. absurd (trial_found c.args.f c.degree_of.result c.loop-divisor.divisor k c.degree_of.ensures.degree (omega arith) (omega (arith, c.loop-divisor-test.true)) d z i),
     )
 
 pub returns : goal.returns
 returns c =
-    let l = limit c.degree-of.result c.degree-of.ensures.below in (
-      λ _. trial_division c.args.f c.degree-of.result (omega arith) c.degree-of.ensures.degree
+    let l = limit c.degree_of.result c.degree_of.ensures.below in (
+      λ _. trial_division c.args.f c.degree_of.result (omega arith) c.degree_of.ensures.degree
           (λ d k two h. c.loop-divisor.invariant d k two (omega (arith, c.loop-divisor-test.false))),
       λ _. refl,
     )

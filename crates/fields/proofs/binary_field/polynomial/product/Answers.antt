@@ -13,23 +13,23 @@ loop-i-init c =
     let (a, b, f, k) : ℕ × ℕ × ℕ × ℕ = (c.args.a, c.args.b, c.args.f, c.args.degree) in
     sym (ap (remainder f k) (ap (λ (x : ℕ). x ⊗ b) (div-eq_of_lt c.requires.first) ∙ zero_product b) ∙ remainder_small f k c.requires.modulus 0 (pow_pos k))
 
-pub times-x-requires : goal.times-x-requires
-times-x-requires c = record {
+pub times_x-requires : goal.times_x-requires
+times_x-requires c = record {
   modulus = c.requires.modulus;
   element = subst (λ (x : ℕ). x < 2 ^ c.args.degree) (sym c.loop-i.invariant) (remainder_below c.args.f c.args.degree c.requires.modulus _);
 }
 
-pub overflow-shr-x : goal.overflow-shr-x
-overflow-shr-x c = omega (arith, degree_below c.args.f c.args.degree 32 c.requires.modulus c.ranges.f.fits)
+pub overflow_shr-x : goal.overflow_shr-x
+overflow_shr-x c = omega (arith, degree_below c.args.f c.args.degree 32 c.requires.modulus c.ranges.f.fits)
 
-pub overflow-mul-x : goal.overflow-mul-x
-overflow-mul-x c = record { fits = omega (arith, mul-le-mul_right c.args.b (and_le_r (c.args.a / 2 ^ (c.loop-i.i - 1)) 1), one-mul c.args.b, c.ranges.b.fits) }
+pub overflow_mul-x : goal.overflow_mul-x
+overflow_mul-x c = record { fits = omega (arith, mul-le-mul_right c.args.b (and_le_r (c.args.a / 2 ^ (c.loop-i.i - 1)) 1), one-mul c.args.b, c.ranges.b.fits) }
 
 pub loop-i-preserved : goal.loop-i-preserved
 loop-i-preserved c =
     let (a, b, f, k, i) : ℕ × ℕ × ℕ × ℕ × ℕ = (c.args.a, c.args.b, c.args.f, c.args.degree, c.loop-i.i) in
     let e : i ≡ suc (i - 1) = omega arith in
     ap₂ bit_xor
-    (c.times-x.ensures ∙ ap (λ (x : ℕ). remainder f k (x * 2)) (c.loop-i.invariant ∙ ap (λ (x : ℕ). remainder f k (a / 2 ^ x ⊗ b)) e))
+    (c.times_x.ensures ∙ ap (λ (x : ℕ). remainder f k (x * 2)) (c.loop-i.invariant ∙ ap (λ (x : ℕ). remainder f k (a / 2 ^ x ⊗ b)) e))
     (ap (λ (x : ℕ). x * b) (and_mask (a / 2 ^ (i - 1)) 1))
     ∙ sym (remainder_horner f k c.requires.modulus a b (i - 1) c.requires.second)

@@ -8,8 +8,8 @@ use Rattle.fields.proofs.binary_field.polynomial.times_x.Goals as goal
 whole : (x k : ℕ) → x < 2 ^ k → k < 32 → x * 2 % 2 ^ 32 ≡ x * 2
 whole x k h l = let m : 2 ^ suc k ≤ 2 ^ 32 = pow_mono l in mod-eq_of_lt (omega (arith, pow-suc 2 k))
 
-pub overflow-shr-carry : goal.overflow-shr-carry
-overflow-shr-carry c = degree_below c.args.f c.args.degree 32 c.requires.modulus c.ranges.f.fits
+pub overflow_shr-carry : goal.overflow_shr-carry
+overflow_shr-carry c = degree_below c.args.f c.args.degree 32 c.requires.modulus c.ranges.f.fits
 
 pub returns-then-carry-eq1 : goal.returns-then-carry-eq1
 returns-then-carry-eq1 c =

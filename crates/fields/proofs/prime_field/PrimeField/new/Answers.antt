@@ -4,8 +4,8 @@ use Rattle.fields.specs.Modulo.{listed_primes, Listed}
 use Rattle.fields.specs.ListedPrimes.{listed_prime, stands_from_has, has_from_stands}
 use Rattle.fields.proofs.prime_field.PrimeField.new.Goals as goal
 
-pub invariant-of-result : goal.invariant-of-result
-invariant-of-result c = let found = c.if-contains.ensures.cases in (stands_from_has listed_primes _ (found.0, found.1, λ d. (found.2 d).0 refl), tt)
+pub invariant_of-result : goal.invariant_of-result
+invariant_of-result c = let found = c.if-contains.ensures.cases in (stands_from_has listed_primes _ (found.0, found.1, λ d. (found.2 d).0 refl), tt)
 
 pub returns-then-contains : goal.returns-then-contains
 returns-then-contains c =

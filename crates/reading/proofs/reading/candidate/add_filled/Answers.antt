@@ -10,7 +10,7 @@ use Rattle.codes.proofs.CellParts.{syndrome_set_noted}
 use Rattle.codes.proofs.Codewords.{length_syndromes}
 use Rattle.reading.proofs.ErasingSteps.{SumsOf, noted_at, changed_none, changed_keep, changed_set, sums_rows, sums_all, sums_more, all_noted, agrees_noted}
 use Rattle.reading.proofs.reading.candidate.add_filled.Goals as goal
-use Rattle.reading.proofs.reading.candidate.add_filled.Goals.{then-is-none, else-is-none}
+use Rattle.reading.proofs.reading.candidate.add_filled.Goals.{then-is_none, else-is_none}
 
 is_none : (o : Option ℕ) → is_some o ≡ false → o ≡ None
 is_none None e = refl
@@ -34,22 +34,22 @@ loop-j-preserved g c =
     let sums = c.loop-j.sums in
     let j = c.loop-j.j in
     let (mixed, long, changed, summed) = c.loop-j.invariant in
-    elim c.if-is-none.branch [
-      | then-is-none w ↦
+    elim c.if-is_none.branch [
+      | then-is_none w ↦
           (let a = get_or code.locators j 0 in
-          let blank : (get_or mixed j blank_cell).letter ≡ None = ap (λ (x : Cell). x.letter) (changed.above j (omega arith)) ∙ is_none _ w.if-is-none.ensures in
+          let blank : (get_or mixed j blank_cell).letter ≡ None = ap (λ (x : Cell). x.letter) (changed.above j (omega arith)) ∙ is_none _ w.if-is_none.ensures in
           let x-is = w.mul-weighted.ensures in (
             set mixed j (noted_at word j),
             length-set mixed j (noted_at word j) ∙ long,
             changed_set (noted_at word) cells mixed j (omega arith) changed,
-            sums_more A code mixed (set mixed j (noted_at word j)) sums c.if-is-none.sums _ a summed c.if-is-none.auto.sums
-                (λ k h. ap (λ (l : List ℕ). get_or l k 0) w.sums-is ∙ w.add-powers.ensures k (omega (arith, ap length w.sums-is)) ∙ ap (λ x. A.plus (get_or sums k 0) (times_power A x a k)) x-is)
+            sums_more A code mixed (set mixed j (noted_at word j)) sums c.if-is_none.sums _ a summed c.if-is_none.auto.sums
+                (λ k h. ap (λ (l : List ℕ). get_or l k 0) w.sums-is ∙ w.add_powers.ensures k (omega (arith, ap length w.sums-is)) ∙ ap (λ x. A.plus (get_or sums k 0) (times_power A x a k)) x-is)
                 (λ k. syndrome_set_noted (lawful c.requires.checked.laws) code mixed j (get_or word j 0) k (omega arith) blank),
           ))
-      | else-is-none w ↦ (
+      | else-is_none w ↦ (
         mixed,
         long,
-        changed_keep (noted_at word) cells mixed j changed (agrees_noted cells word j w.if-is-none.ensures (c.requires.agrees j (omega arith))),
+        changed_keep (noted_at word) cells mixed j changed (agrees_noted cells word j w.if-is_none.ensures (c.requires.agrees j (omega arith))),
         subst (SumsOf A code mixed) (sym w.sums-is) summed,
       )
     ]

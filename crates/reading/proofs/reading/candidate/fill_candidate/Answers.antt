@@ -5,8 +5,8 @@ use Rattle.codes.proofs.Codewords.{length_syndromes}
 use Rattle.reading.proofs.Decoding.{length_filled, filled_agrees}
 use Rattle.reading.proofs.reading.candidate.fill_candidate.Goals as goal
 
-pub write-letters-requires : goal.write-letters-requires
-write-letters-requires g c =
+pub write_letters-requires : goal.write_letters-requires
+write_letters-requires g c =
     let pre = c.requires in
     let shape = pre.checked.shape in
     let rows = ap length pre.summed ∙ length_syndromes _ (code_of c.args.code) c.args.cells.now in
@@ -15,12 +15,12 @@ write-letters-requires g c =
       few = record { rows = pre.few; largest = omega (arith, shape.most_rows, pre.few) };
     }
 
-pub add-filled-requires : goal.add-filled-requires
-add-filled-requires g c =
+pub add_filled-requires : goal.add_filled-requires
+add_filled-requires g c =
     let m = g.F.Field.meaning c.args.field.now in
     let code = code_of c.args.code in
     let cells = c.args.cells.now in
-    let is = c.write-letters.ensures in
+    let is = c.write_letters.ensures in
     record {
       checked = c.requires.checked;
       long = c.requires.long;

@@ -12,28 +12,28 @@ use Rattle.reading.proofs.reading.decode.decode.Goals as goal
 pub returns-then-degree-code : goal.returns-then-degree-code
 returns-then-degree-code g c =
     let pre = c.requires in
-    let located = c.error-locator-degree.ensures in
+    let located = c.error_locator-degree.ensures in
     none_near (g.F.Field.meaning c.args.field.now) (code_of c.args.code) pre.checked c.args.cells.now pre.long pre.lettered
-    (omega (arith, pre.few, pre.counted)) c.error-locator-degree.result c.error-locator-degree.new.locator located.locates (omega (arith, c.if-degree-code.true, pre.counted))
+    (omega (arith, pre.few, pre.counted)) c.error_locator-degree.result c.error_locator-degree.new.locator located.locates (omega (arith, c.if-degree-code.true, pre.counted))
 
-pub fill-candidate-requires : goal.fill-candidate-requires
-fill-candidate-requires g c =
+pub fill_candidate-requires : goal.fill_candidate-requires
+fill_candidate-requires g c =
     let pre = c.requires in
     let A = (g.F.Field.meaning c.args.field.now).arithmetic in
     let code = code_of c.args.code in
-    let d = c.error-locator-degree.result in
-    let f = c.error-locator-degree.new.locator in
+    let d = c.error_locator-degree.result in
+    let f = c.error_locator-degree.new.locator in
     let one_more : d + 1 - 0 ≡ suc d = omega arith in
-    let is : c.erase-roots.new.cells ≡ erased A (take (suc d) f) code.locators c.args.cells.now =
-    c.erase-roots.ensures.cells ∙ ap₂ (λ n (l : List Cell). erased A (take n f) code.locators l) one_more c.copy-from-slice.ensures.after in
+    let is : c.erase_roots.new.cells ≡ erased A (take (suc d) f) code.locators c.args.cells.now =
+    c.erase_roots.ensures.cells ∙ ap₂ (λ n (l : List Cell). erased A (take n f) code.locators l) one_more c.copy_from_slice.ensures.after in
     let few = left_few (g.F.Field.meaning c.args.field.now) code pre.checked c.args.cells.now pre.long pre.lettered
-    (omega (arith, pre.few, pre.counted)) d f c.error-locator-degree.ensures.locates (omega (arith, c.if-degree-code.false, pre.counted)) in
+    (omega (arith, pre.few, pre.counted)) d f c.error_locator-degree.ensures.locates (omega (arith, c.if-degree-code.false, pre.counted)) in
     record {
       checked = pre.checked;
       long = ap length is ∙ length_erased A (take (suc d) f) code.locators c.args.cells.now ∙ pre.long;
       few = omega (arith, few, ap blanks is);
       room = pre.room;
-      summed = c.erase-roots.ensures.sums;
+      summed = c.erase_roots.ensures.sums;
     }
 
 pub returns : goal.returns
@@ -42,13 +42,13 @@ returns g c =
     let m = g.F.Field.meaning c.args.field.now in
     let A = m.arithmetic in
     let code = code_of c.args.code in
-    let d = c.error-locator-degree.result in
-    let f = c.error-locator-degree.new.locator in
+    let d = c.error_locator-degree.result in
+    let f = c.error_locator-degree.new.locator in
     let one_more : d + 1 - 0 ≡ suc d = omega arith in
-    let is : c.erase-roots.new.cells ≡ erased A (take (suc d) f) code.locators c.args.cells.now =
-    c.erase-roots.ensures.cells ∙ ap₂ (λ n (l : List Cell). erased A (take n f) code.locators l) one_more c.copy-from-slice.ensures.after in
-    let Filled-is = c.fill-candidate.ensures.word
-    ∙ ap (filled m code c.erase-roots.new.cells) c.erase-roots.ensures.sums
+    let is : c.erase_roots.new.cells ≡ erased A (take (suc d) f) code.locators c.args.cells.now =
+    c.erase_roots.ensures.cells ∙ ap₂ (λ n (l : List Cell). erased A (take n f) code.locators l) one_more c.copy_from_slice.ensures.after in
+    let Filled-is = c.fill_candidate.ensures.word
+    ∙ ap (filled m code c.erase_roots.new.cells) c.erase_roots.ensures.sums
     ∙ ap (λ (l : List Cell). filled m code l (syndromes A code l)) is in
-    decoded m code pre.checked c.args.cells.now pre.long pre.lettered (omega (arith, pre.few, pre.counted)) d f c.error-locator-degree.ensures.locates
-    c.fill-candidate.new.word Filled-is c.fill-candidate.new.sums c.fill-candidate.ensures.sums c.accept.result c.accept.ensures
+    decoded m code pre.checked c.args.cells.now pre.long pre.lettered (omega (arith, pre.few, pre.counted)) d f c.error_locator-degree.ensures.locates
+    c.fill_candidate.new.word Filled-is c.fill_candidate.new.sums c.fill_candidate.ensures.sums c.accept.result c.accept.ensures

@@ -7,8 +7,8 @@ use Rattle.reading.proofs.ModifiedSyndromes.{modified_are}
 use Rattle.reading.proofs.Realised.{locates_short, realised_ok, realised_locates}
 use Rattle.reading.proofs.reading.locator.error_locator.Goals as goal
 
-pub modified-sums-requires : goal.modified-sums-requires
-modified-sums-requires g c =
+pub modified_sums-requires : goal.modified_sums-requires
+modified_sums-requires g c =
     let A = (g.F.Field.meaning c.args.field.now).arithmetic in
     let rows = ap length c.requires.summed ∙ length_syndromes A (code_of c.args.code) c.args.cells.now in
     record { short = omega arith; within = omega arith }
@@ -17,9 +17,9 @@ pub unwrap-requires : goal.unwrap-requires
 unwrap-requires g c =
     let A = (g.F.Field.meaning c.args.field.now).arithmetic in
     let cells = c.args.cells.now in
-    let T = c.modified-sums.new.modified in
-    let is = modified_are A (code_of c.args.code) cells (coefficients_of c.blank-annihilator-product.result) c.args.sums.now T
-    c.blank-annihilator-product.ensures.product c.requires.summed (omega arith) c.modified-sums.ensures in
+    let T = c.modified_sums.new.modified in
+    let is = modified_are A (code_of c.args.code) cells (coefficients_of c.blank_annihilator-product.result) c.args.sums.now T
+    c.blank_annihilator-product.ensures.product c.requires.summed (omega arith) c.modified_sums.ensures in
     realised_ok c.requires.checked cells T c.args.locator.now _ c.realise.new.f c.realise.new.w is c.requires.room refl c.realise.result c.realise.ensures.pinned
 
 pub returns : goal.returns
@@ -27,10 +27,10 @@ returns g c =
     let A = (g.F.Field.meaning c.args.field.now).arithmetic in
     let code = code_of c.args.code in
     let cells = c.args.cells.now in
-    let T = c.modified-sums.new.modified in
+    let T = c.modified_sums.new.modified in
     let f = c.realise.new.f in
-    let is = modified_are A code cells (coefficients_of c.blank-annihilator-product.result) c.args.sums.now T
-    c.blank-annihilator-product.ensures.product c.requires.summed (omega arith) c.modified-sums.ensures in
+    let is = modified_are A code cells (coefficients_of c.blank_annihilator-product.result) c.args.sums.now T
+    c.blank_annihilator-product.ensures.product c.requires.summed (omega arith) c.modified_sums.ensures in
     let realised = subst (Realised A T c.args.locator.now _ f c.realise.new.w) c.unwrap.ensures c.realise.ensures.pinned in
     let locates = realised_locates c.requires.checked cells T c.args.locator.now _ f c.realise.new.w is c.requires.room refl c.unwrap.result realised in
     let places = c.requires.room in

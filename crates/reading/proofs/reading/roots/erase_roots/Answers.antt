@@ -13,7 +13,7 @@ use Rattle.codes.proofs.Codewords.{length_syndromes}
 use Rattle.reading.specs.Erasing.{erased_cell, erased}
 use Rattle.reading.proofs.ErasingSteps.{ChangedTo, SumsOf, changed_none, changed_keep, changed_set, sums_rows, sums_all, sums_more, erased_root, erased_other, erased_blank}
 use Rattle.reading.proofs.reading.roots.erase_roots.Goals as goal
-use Rattle.reading.proofs.reading.roots.erase_roots.Goals.{in-Some+then-value-at-eq0, in-Some+else-value-at-eq0, in-default}
+use Rattle.reading.proofs.reading.roots.erase_roots.Goals.{in-Some+then-value_at-eq0, in-Some+else-value_at-eq0, in-default}
 
 pub loop-j-init : goal.loop-j-init
 loop-j-init g c =
@@ -36,20 +36,20 @@ loop-j-preserved g c =
     let (changed, summed) = c.loop-j.invariant in
     let here : get_or cells j blank_cell ≡ get_or before j blank_cell = changed.above j (omega arith) in
     elim c.match-cells-j.branch [
-      | in-Some+then-value-at-eq0 w ↦
-          (let gone = erased_root A p code.locators before j (eq-eqb _ 0 (sym w.value-at.ensures ∙ w.if-value-at-eq0.true)) in
+      | in-Some+then-value_at-eq0 w ↦
+          (let gone = erased_root A p code.locators before j (eq-eqb _ 0 (sym w.value_at.ensures ∙ w.if-value_at-eq0.true)) in
           let blanked : c.match-cells-j.cells ≡ set cells j blank_cell = w.cells-is ∙ ap (set cells j) w.blank.ensures in
           let a = get_or code.locators j 0 in
           let x = negate A (A.times w.in-Some.letter (get_or code.multipliers j 0)) in
           let x-is : w.sub.result ≡ x = w.sub.ensures ∙ ap (negate A) w.mul-weighted.ensures in (
             subst (λ (l : List Cell). ChangedTo f before l (j + 1)) (sym (blanked ∙ ap (set cells j) (sym gone))) (changed_set f before cells j (omega arith) changed),
             sums_more A code cells c.match-cells-j.cells sums c.match-cells-j.sums x a summed c.match-cells-j.auto.sums
-                (λ k h. ap (λ (l : List ℕ). get_or l k 0) w.sums-is ∙ w.add-powers.ensures k (omega (arith, ap length w.sums-is)) ∙ ap (λ x. A.plus (get_or sums k 0) (times_power A x a k)) x-is)
+                (λ k h. ap (λ (l : List ℕ). get_or l k 0) w.sums-is ∙ w.add_powers.ensures k (omega (arith, ap length w.sums-is)) ∙ ap (λ x. A.plus (get_or sums k 0) (times_power A x a k)) x-is)
                 (λ k. ap (λ (l : List Cell). syndrome A code l k) blanked
                 ∙ syndrome_set_blank (lawful c.requires.checked.laws) code cells j w.in-Some.letter k (omega arith) w.in-Some.is (c.requires.checked.locators.element j (omega arith))),
           ))
-      | in-Some+else-value-at-eq0 w ↦
-          (let stays = sym (erased_other A p code.locators before j (ne_eqb _ 0 (λ e. w.if-value-at-eq0.false (w.value-at.ensures ∙ e)))) in (
+      | in-Some+else-value_at-eq0 w ↦
+          (let stays = sym (erased_other A p code.locators before j (ne_eqb _ 0 (λ e. w.if-value_at-eq0.false (w.value_at.ensures ∙ e)))) in (
             subst (λ (l : List Cell). ChangedTo f before l (j + 1)) (sym w.cells-is) (changed_keep f before cells j changed stays),
             subst₂ (SumsOf A code) (sym w.cells-is) (sym w.sums-is) summed,
           ))

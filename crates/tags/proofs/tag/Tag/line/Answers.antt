@@ -12,18 +12,18 @@ use Rattle.tags.proofs.Sheets.{line_answered}
 use Rattle.tags.proofs.Tags.{width_is, own_line}
 use Rattle.tags.proofs.tag.Tag.line.Goals as goal
 
-pub invariant-of-self : goal.invariant-of-self
-invariant-of-self g c =
+pub invariant_of-self : goal.invariant_of-self
+invariant_of-self g c =
     let tag = c.args.self.now in
     let card = tag.card.now in
     let cells = tag.table.cells in
-    let after = c.read-line.new.cells in
+    let after = c.read_line.new.cells in
     let marks = chars c.args.line.now in
-    let own = own_line card cells after marks c.read-line.result c.width-width.result _ c.width-width.ensures.is (ap (λ (d : Code). d.letters) c.code-letters.ensures) tag.long c.read-line.auto.cells c.read-line.ensures in (
-      same_len_mid 0 (c.width-width.result - 0) cells after c.read-line.auto.cells ∙ tag.long,
+    let own = own_line card cells after marks c.read_line.result c.width-width.result _ c.width-width.ensures.is (ap (λ (d : Code). d.letters) c.code-letters.ensures) tag.long c.read_line.auto.cells c.read_line.ensures in (
+      same_len_mid 0 (c.width-width.result - 0) cells after c.read_line.auto.cells ∙ tag.long,
       (
         subst (λ (own-cells : List Cell). ∥ Lettered card.letters own-cells ∥₁) (sym (take_at after _ card.cells own.after_long))
-            (lettered_line card.letters marks (take card.cells cells) after c.read-line.result own.read tag.lettered),
+            (lettered_line card.letters marks (take card.cells cells) after c.read_line.result own.read tag.lettered),
         tt,
       ),
     )
@@ -33,13 +33,13 @@ returns g c =
     let tag = c.args.self.now in
     let card = tag.card.now in
     let cells = tag.table.cells in
-    let after = c.read-line.new.cells in
+    let after = c.read_line.new.cells in
     let marks = chars c.args.line.now in
-    let own = own_line card cells after marks c.read-line.result c.width-width.result _ c.width-width.ensures.is (ap (λ (d : Code). d.letters) c.code-letters.ensures) tag.long c.read-line.auto.cells c.read-line.ensures in
-    let answered = line_answered (card_code card) marks (take card.cells cells) after (own.before_long ∙ sym (width_is card)) c.read-line.result own.read in
+    let own = own_line card cells after marks c.read_line.result c.width-width.result _ c.width-width.ensures.is (ap (λ (d : Code). d.letters) c.code-letters.ensures) tag.long c.read_line.auto.cells c.read_line.ensures in
+    let answered = line_answered (card_code card) marks (take card.cells cells) after (own.before_long ∙ sym (width_is card)) c.read_line.result own.read in
     let front = take_at after _ card.cells own.after_long in
     record {
-      marks = subst (λ (own-cells : List Cell). LineRead card.letters marks (take card.cells cells) own-cells c.read-line.result) (sym front) own.read;
+      marks = subst (λ (own-cells : List Cell). LineRead card.letters marks (take card.cells cells) own-cells c.read_line.result) (sym front) own.read;
       answer = answered.0;
       cells = front ∙ answered.1;
       card = refl;

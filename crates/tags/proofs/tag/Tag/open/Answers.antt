@@ -6,8 +6,8 @@ use Rattle.tags.proofs.Lettering.{lettered_blank}
 use Rattle.tags.proofs.Tags.{width_is}
 use Rattle.tags.proofs.tag.Tag.open.Goals as goal
 
-pub invariant-of-result : goal.invariant-of-result
-invariant-of-result g c =
+pub invariant_of-result : goal.invariant_of-result
+invariant_of-result g c =
     let card = c.args.card.now in
     (refl, (∣ subst (Lettered card.letters) (sym (take-replicate card.cells 256 blank_cell card.long)) (lettered_blank card.letters card.cells) ∣₁, tt))
 

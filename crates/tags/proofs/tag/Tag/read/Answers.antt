@@ -5,8 +5,8 @@ use Rattle.codes.specs.Verdicts.{Lettered}
 use Rattle.tags.proofs.Lettering.{lettered_prop}
 use Rattle.tags.proofs.tag.Tag.read.Goals as goal
 
-pub read-cells-requires : goal.read-cells-requires
-read-cells-requires g c =
+pub read_cells-requires : goal.read_cells-requires
+read_cells-requires g c =
     let tag = c.args.self.now in
     let card = tag.card.now in
     let own = c.cells.ensures in

@@ -8,8 +8,8 @@ use Rattle.tags.proofs.Lettering.{lettered_changed}
 use Rattle.tags.proofs.Sheets.{wipe_accepted, changed_cell}
 use Rattle.tags.proofs.tag.Tag.wipe.Goals as goal
 
-pub invariant-of-self : goal.invariant-of-self
-invariant-of-self g c =
+pub invariant_of-self : goal.invariant_of-self
+invariant_of-self g c =
     let tag = c.args.self.now in
     let card = tag.card.now in
     let changed = c.put.ensures ∙ ap (set tag.table.cells _) c.blank.ensures in (

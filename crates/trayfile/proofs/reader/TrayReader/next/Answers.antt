@@ -26,7 +26,7 @@ pub returns-in-Ok : goal.returns-in-Ok
 returns-in-Ok c =
     let reader = c.args.self.now in
     let step = c.in-Ok.step in
-    let same = c.record-of.ensures ∙ ap (entry step.kind) c.part-body.ensures in
+    let same = c.record_of.ensures ∙ ap (entry step.kind) c.part-body.ensures in
     record {
       step = record {
         no_fault = c.in-default.is;

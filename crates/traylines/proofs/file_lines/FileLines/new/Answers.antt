@@ -3,5 +3,5 @@ use Rattle.trayfile.specs.declared.turn.Turn.{Turn}
 use Rattle.traylines.specs.LastCards.{LastCard}
 use Rattle.traylines.proofs.file_lines.FileLines.new.Goals as goal
 
-pub invariant-of-result : goal.invariant-of-result
-invariant-of-result c = (subst (λ (t : Turn). ∥ LastCard t _ ∥₁) (sym c.new.ensures.first_turn) ∣ tt ∣₁, tt)
+pub invariant_of-result : goal.invariant_of-result
+invariant_of-result c = (subst (λ (t : Turn). ∥ LastCard t _ ∥₁) (sym c.new.ensures.first_turn) ∣ tt ∣₁, tt)

@@ -2,5 +2,5 @@ use Rattle.std.proofs.Common.{arith, rules}
 use Rattle.fields.specs.ListedPrimes.{listed_small}
 use Rattle.fields.proofs.prime_field.arithmetic.PrimeFieldField.add.Goals as goal
 
-pub overflow-add-result : goal.overflow-add-result
-overflow-add-result c = let small = listed_small c.args.self.now.prime c.args.self.now.listed in search rules
+pub overflow_add-result : goal.overflow_add-result
+overflow_add-result c = let small = listed_small c.args.self.now.prime c.args.self.now.listed in search rules
