@@ -8,7 +8,7 @@ use Rattle.codes.specs.Code.{Code, code_of}
 use Rattle.codes.specs.Sums.{sum_to, add_cell, syndromes}
 use Rattle.codes.specs.Cells.{blank_cell}
 use Rattle.codes.proofs.syndromes.sums.Goals as goal
-use Rattle.codes.proofs.syndromes.sums.Goals.{in-Some, in-default}
+use Rattle.codes.proofs.syndromes.sums.Goals.{in-Some, in_default}
 
 pub loop-j-init : goal.loop-j-init
 unfolding sum_to
@@ -39,7 +39,7 @@ loop-j-preserved g c k h =
           at_j (Some w.in-Some.letter) _ before w.in-Some.is so_far
           (ap (λ (xs : List ℕ). get_or xs k 0) same ∙ w.add_powers.ensures k within
           ∙ ap (λ x. A.plus before (times_power A x (get_or code.locators c.loop-j.j 0) k)) weighted))
-      | in-default w ↦ at_j None _ before w.in-default.is so_far (ap (λ (xs : List ℕ). get_or xs k 0) w.sums-is)
+      | in_default w ↦ at_j None _ before w.in_default.is so_far (ap (λ (xs : List ℕ). get_or xs k 0) w.sums-is)
     ]
 
 pub returns : goal.returns

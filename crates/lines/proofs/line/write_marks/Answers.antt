@@ -64,7 +64,7 @@ loop-place-preserved c =
     let step = c.in-Some.ensures.steps in
     let inv = c.loop-place.invariant in
     let next = standing_step c.args.line.now _ _ _ c.in-Some.mark inv.2 step.0.0 in
-    absurd (c.requires.good _ next.within (ap (marked_cell c.args.letters) next.is ∙ sym c.marked.ensures ∙ c.in-default.is))
+    absurd (c.requires.good _ next.within (ap (marked_cell c.args.letters) next.is ∙ sym c.marked.ensures ∙ c.in_default.is))
 
 pub returns : goal.returns
 returns c =

@@ -18,14 +18,14 @@ pub returns-in-A-to-Z : goal.returns-in-A-to-Z
 unfolding cell_of_mark
 returns-in-A-to-Z c = search rules
 
-pub returns-in-default : goal.returns-in-default
+pub returns-in_default : goal.returns-in_default
 unfolding cell_of_mark
-returns-in-default c = search rules
+returns-in_default c = search rules
 
-pub returns-in-default·2 : goal.returns-in-default·2
+pub returns-in_default·2 : goal.returns-in_default·2
 unfolding cell_of_mark
-returns-in-default·2 c = search rules
+returns-in_default·2 c = search rules
 
-pub returns-in-default·3 : goal.returns-in-default·3
+pub returns-in_default·3 : goal.returns-in_default·3
 unfolding cell_of_mark
-returns-in-default·3 c = search rules
+returns-in_default·3 c = search rules

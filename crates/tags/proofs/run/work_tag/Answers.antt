@@ -12,15 +12,15 @@ use Rattle.tags.proofs.Journals.{AllAnswered, answered_more, picks_more, sheet_p
 use Rattle.tags.proofs.Tags.{width_fits}
 use Rattle.tags.proofs.run.work_tag.Goals as goal
 
-pub returns-in-default : goal.returns-in-default
-returns-in-default g c =
+pub returns-in_default : goal.returns-in_default
+returns-in_default g c =
     let inv = c.loop-events.invariant in
     let card = c.args.card.now in
     let seen : take (c.loop-events.events - 0) c.loop-events.journal ≡ take c.loop-events.events c.loop-events.journal = ap (λ n. take n c.loop-events.journal) (omega arith) in
     record {
       play = record {
         within = inv.5;
-        ended = (c.loop-events.worker, inv.3, subst (λ (js : List Event). g.W.Worker.picks c.loop-events.worker js None c.pick.new.self) seen c.in-default.ensures, omega (arith, length-take-le c.loop-events.events c.loop-events.journal inv.5));
+        ended = (c.loop-events.worker, inv.3, subst (λ (js : List Event). g.W.Worker.picks c.loop-events.worker js None c.pick.new.self) seen c.in_default.ensures, omega (arith, length-take-le c.loop-events.events c.loop-events.journal inv.5));
         others = inv.6;
       };
       law = run_law (g.F.Field.meaning card.field).arithmetic (card_code card) (width_fits card) _ inv.2;

@@ -7,7 +7,7 @@ use Rattle.vectors.proofs.WorkedSums.{book, eleven_listed}
 use Rattle.vectors.proofs.worked.sum_of_book_number.Goals as goal
 
 pub unreachable-requires : goal.unreachable-requires
-unreachable-requires c = c.in-default.ensures.0 eleven_listed
+unreachable-requires c = c.in_default.ensures.0 eleven_listed
 
 pub returns : goal.returns
 returns c =

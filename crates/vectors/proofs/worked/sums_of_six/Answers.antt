@@ -7,7 +7,7 @@ use Rattle.vectors.proofs.WorkedSums.{six, seven_listed}
 use Rattle.vectors.proofs.worked.sums_of_six.Goals as goal
 
 pub unreachable-requires : goal.unreachable-requires
-unreachable-requires c = c.in-default.ensures.0 seven_listed
+unreachable-requires c = c.in_default.ensures.0 seven_listed
 
 pub returns : goal.returns
 returns c =

@@ -16,7 +16,7 @@ pub unreachable-requires : goal.unreachable-requires
 unreachable-requires c =
     let values = c.code.ensures ∙ c.inked_card-card.ensures.values in
     let twenty : length c.args.cells ≡ 20 = search rules in
-    c.in-default.ensures.1
+    c.in_default.ensures.1
     (subst (λ (code : Code). Lengths code c.args.cells (0 ∷ 0 ∷ 0 ∷ 0 ∷ 0 ∷ 0 ∷ 0 ∷ 0 ∷ [])) (sym values) (right_lengths _ twenty))
 
 pub returns : goal.returns

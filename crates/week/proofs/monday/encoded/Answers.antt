@@ -20,5 +20,5 @@ pub unreachable-requires : goal.unreachable-requires
 unreachable-requires c =
     let card = c.inked_card-card.ensures in
     let twelve : length c.args.letters.now ≡ 12 = search rules in
-    on_inked c.args.letters.now (replicate 20 0) twelve refl c.requires c.in-default.field-0
-    (subst₂ (λ (m : Meaning) (code : Code). EncodeRefused m code c.args.letters.now (replicate 20 0) c.in-default.field-0) card.meaning card.values c.in-default.ensures.0)
+    on_inked c.args.letters.now (replicate 20 0) twelve refl c.requires c.in_default.field-0
+    (subst₂ (λ (m : Meaning) (code : Code). EncodeRefused m code c.args.letters.now (replicate 20 0) c.in_default.field-0) card.meaning card.values c.in_default.ensures.0)

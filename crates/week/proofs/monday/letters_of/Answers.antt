@@ -4,10 +4,10 @@ use Rattle.codes.specs.Cells.{blank_cell, noted, noted_cell}
 use Rattle.codes.specs.declared.cell.Cell.{Cell}
 use Rattle.week.proofs.monday.letters_of.Goals as goal
 
-pub returns-in-default : goal.returns-in-default
-returns-in-default c =
+pub returns-in_default : goal.returns-in_default
+returns-in_default c =
     let inv = c.loop-j.invariant in
-    record { within = search rules; blank = c.in-default.is; before = λ j h none. let z : ◌≡◌ {A = ℕ} 0 1 = cc (inv.1 j h) in omega arith }
+    record { within = search rules; blank = c.in_default.is; before = λ j h none. let z : ◌≡◌ {A = ℕ} 0 1 = cc (inv.1 j h) in omega arith }
 
 pub returns : goal.returns
 returns c =

@@ -31,7 +31,7 @@ returns-in-Ok c =
     let buffer = c.read_answer-answer.result.1 in
     let cells = marked_cells 37 (chars c.args.line.now) in
     let by = read_under _ (card_code c.inked_card-card.result) c.args.line _ _ _ c.line_answer-noted.result c.read_answer-answer.result.0 buffer play.events c.play_script.auto.journal play.calls play.law
-    (c.line_answer-noted.ensures c.args.line) (c.read_answer-answer.ensures 20) (modulo 37) (row_code inked) _ (ap modulo card.made_from) card.values c.in-default.is in
+    (c.line_answer-noted.ensures c.args.line) (c.read_answer-answer.ensures 20) (modulo 37) (row_code inked) _ (ap modulo card.made_from) card.values c.in_default.is in
     let reading = subst₂ (λ (word : List ℕ) (answer : Result Counts ReadRefusal). Reading (modulo 37) (row_code inked) cells (take 20 fresh_buffer) word answer) (sym c.front.ensures) c.in-Ok.is by.1 in
     (by.0, granted_in (modulo 37) (row_code inked) cells (take 20 fresh_buffer) c.front.result empty_word c.in-Ok.counts refl reading)
 
@@ -42,6 +42,6 @@ returns-in-Err-answer c =
     let buffer = c.read_answer-answer.result.1 in
     let cells = marked_cells 37 (chars c.args.line.now) in
     let by = read_under _ (card_code c.inked_card-card.result) c.args.line _ _ _ c.line_answer-noted.result c.read_answer-answer.result.0 buffer play.events c.play_script.auto.journal play.calls play.law
-    (c.line_answer-noted.ensures c.args.line) (c.read_answer-answer.ensures 20) (modulo 37) (row_code inked) _ (ap modulo card.made_from) card.values c.in-default.is in
+    (c.line_answer-noted.ensures c.args.line) (c.read_answer-answer.ensures 20) (modulo 37) (row_code inked) _ (ap modulo card.made_from) card.values c.in_default.is in
     let reading = subst (λ (answer : Result Counts ReadRefusal). Reading (modulo 37) (row_code inked) cells (take 20 fresh_buffer) (take 20 buffer) answer) c.in-Err-answer.is by.1 in
     (by.0, refused_in (modulo 37) (row_code inked) cells (take 20 fresh_buffer) (take 20 buffer) empty_word c.in-Err-answer.refusal refl reading)

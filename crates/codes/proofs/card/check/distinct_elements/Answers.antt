@@ -1,6 +1,6 @@
 use Rattle.std.proofs.Common.{◌≡◌, ℕ, ◌+◌, ◌-◌, ◌<◌, ◌≤◌, true, false, List, length, get_or, take, sym, refl, ap, ◌∙◌, ⊎_elim, zero-le, arith, below_more}
 use Rattle.std.proofs.lemmas.List.{get_or-take, length-take-le}
-use Rattle.std.proofs.lemmas.Bool.{cases_eq, false≢true}
+use Rattle.std.proofs.lemmas.Bool.{cases_eq, false≢true, eqb-true, eq-eqb}
 use Rattle.codes.proofs.card.check.distinct_elements.Goals as goal
 
 -- a place of the front, which the code has as the first j − 0 elements
@@ -31,7 +31,7 @@ returns-then-contains g c =
     let front = in_front xs j found.0 within found.1 in
     let before = front.0 in (
       (λ e. absurd (false≢true e)),
-      λ fit. let same = fit.distinct found.0 j (omega arith) within (sym front.1 ∙ (found.2 0).0 refl) in absurd (omega arith),
+      λ fit. let same = fit.distinct found.0 j (omega arith) within (sym front.1 ∙ eqb-true _ _ (found.2 0)) in absurd (omega arith),
     )
 
 pub loop-j-preserved : goal.loop-j-preserved
@@ -42,5 +42,5 @@ loop-j-preserved g c =
     let j = c.loop-j.j in
     let within : j < length xs = c.loop-j-test.true in (
       below_more _ _ inv.0 c.if-locator-size.false,
-      one_more xs j inv.1 (λ i h e. let front = to_front xs j i within h in false≢true ((none i 0 zero-le front.0).1 (front.1 ∙ e))),
+      one_more xs j inv.1 (λ i h e. let front = to_front xs j i within h in false≢true (sym (none i 0 zero-le front.0) ∙ eq-eqb _ _ (front.1 ∙ e))),
     )

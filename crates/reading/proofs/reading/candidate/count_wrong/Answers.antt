@@ -4,7 +4,7 @@ use Rattle.std.proofs.lemmas.Bool.{eq-eqb, ne_eqb, cond-true, cond-false}
 use Rattle.codes.specs.Cells.{blank_cell}
 use Rattle.reading.specs.Reading.{wrong, one_if_wrong}
 use Rattle.reading.proofs.reading.candidate.count_wrong.Goals as goal
-use Rattle.reading.proofs.reading.candidate.count_wrong.Goals.{in-Some+then-letter-word, in-Some+else-letter-word, in-default}
+use Rattle.reading.proofs.reading.candidate.count_wrong.Goals.{in-Some+then-letter-word, in-Some+else-letter-word, in_default}
 
 pub loop-j-preserved : goal.loop-j-preserved
 loop-j-preserved c =
@@ -20,8 +20,8 @@ loop-j-preserved c =
       | in-Some+else-letter-word w ↦
           (let none : one_if_wrong (get_or cells j blank_cell).letter (get_or word j 0) ≡ 0 = ap (λ o. one_if_wrong o (get_or word j 0)) w.in-Some.is ∙ cond-true _ 0 1 (eq-eqb _ _ w.if-letter-word.false) in
           let count = w.count-is in omega arith)
-      | in-default w ↦
-          (let none : one_if_wrong (get_or cells j blank_cell).letter (get_or word j 0) ≡ 0 = ap (λ o. one_if_wrong o (get_or word j 0)) w.in-default.is in
+      | in_default w ↦
+          (let none : one_if_wrong (get_or cells j blank_cell).letter (get_or word j 0) ≡ 0 = ap (λ o. one_if_wrong o (get_or word j 0)) w.in_default.is in
           let count = w.count-is in omega arith)
     ]
 

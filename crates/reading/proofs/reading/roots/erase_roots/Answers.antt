@@ -13,7 +13,7 @@ use Rattle.codes.proofs.Codewords.{length_syndromes}
 use Rattle.reading.specs.Erasing.{erased_cell, erased}
 use Rattle.reading.proofs.ErasingSteps.{ChangedTo, SumsOf, changed_none, changed_keep, changed_set, sums_rows, sums_all, sums_more, erased_root, erased_other, erased_blank}
 use Rattle.reading.proofs.reading.roots.erase_roots.Goals as goal
-use Rattle.reading.proofs.reading.roots.erase_roots.Goals.{in-Some+then-value_at-eq0, in-Some+else-value_at-eq0, in-default}
+use Rattle.reading.proofs.reading.roots.erase_roots.Goals.{in-Some+then-value_at-eq0, in-Some+else-value_at-eq0, in_default}
 
 pub loop-j-init : goal.loop-j-init
 loop-j-init g c =
@@ -53,8 +53,8 @@ loop-j-preserved g c =
             subst (λ (l : List Cell). ChangedTo f before l (j + 1)) (sym w.cells-is) (changed_keep f before cells j changed stays),
             subst₂ (SumsOf A code) (sym w.cells-is) (sym w.sums-is) summed,
           ))
-      | in-default w ↦
-          (let stays = erased_blank A p code.locators before j (ap (λ (x : Cell). x.letter) (sym here) ∙ w.in-default.is) in (
+      | in_default w ↦
+          (let stays = erased_blank A p code.locators before j (ap (λ (x : Cell). x.letter) (sym here) ∙ w.in_default.is) in (
             subst (λ (l : List Cell). ChangedTo f before l (j + 1)) (sym w.cells-is) (changed_keep f before cells j changed stays),
             subst₂ (SumsOf A code) (sym w.cells-is) (sym w.sums-is) summed,
           ))

@@ -17,7 +17,7 @@ returns-in-Some c =
 pub returns-then-self : goal.returns-then-self
 returns-then-self c =
     record {
-      step = record { no_fault = c.in-default.is; none_left = drop_all c.args.self.now.place c.args.self.now.file.now c.if-self.true; same = refl };
+      step = record { no_fault = c.in_default.is; none_left = drop_all c.args.self.now.place c.args.self.now.file.now c.if-self.true; same = refl };
       runs = every_run;
       back = record_reads_back;
     }
@@ -29,9 +29,9 @@ returns-in-Ok c =
     let same = c.record_of.ensures ∙ ap (entry step.kind) c.part-body.ensures in
     record {
       step = record {
-        no_fault = c.in-default.is;
+        no_fault = c.in_default.is;
         here = subst (λ (e : Entry). RecordIn reader.turn reader.place (drop reader.place reader.file.now) e step.end step.turn) (sym same) c.in-Ok.ensures.here;
-        still_none = c.in-default.is;
+        still_none = c.in_default.is;
         same_file = refl;
       };
       runs = every_run;
@@ -44,7 +44,7 @@ returns-in-Err c =
     let long = length-drop reader.place reader.file.now in
     record {
       step = record {
-        cause = inr (c.in-default.is, omega (arith, long, c.if-self.false), c.in-Err.ensures);
+        cause = inr (c.in_default.is, omega (arith, long, c.if-self.false), c.in-Err.ensures);
         kept = refl;
         same_file = refl;
         same_place = refl;
