@@ -14,7 +14,7 @@ returns-in_err-lists g c =
     let stands = c.requires.stands in
     let fits : HeadFits (g.F.Field.meaning c.args.field) c.args.read.head = record { shape = c.if-not-has_shape.ensures.0 refl; alphabet = c.if-not-admits.ensures.0 refl } in
     let stop = lists_refused head c.args.body.now stands.begins (g.F.Field.meaning c.args.field) c.args.read.end _ fits stands.end c.in_err-lists.ensures in
-    let p = err_from_is_err_and c.from-residual.result c.from-residual.ensures.1 in
+    let p = err_from_is_err_and c.from_residual.result c.from_residual.ensures.1 in
     rw (p.1, p.2) stop
 
 pub returns-in-Ok : goal.returns-in-Ok

@@ -11,7 +11,7 @@ returns-in_err-read c =
     let vs = take c.loop-j.j c.loop-j.values in
     let long = length-take-le c.loop-j.j c.loop-j.values (omega (arith, inv.2, c.requires)) in
     let stop = list_stops vs c.args.body.now c.args.start c.loop-j.end c.args.count _ inv.0 inv.1 (omega arith) c.in_err-read.ensures in
-    let p = err_from_is_err_and c.from-residual.result c.from-residual.ensures.1 in
+    let p = err_from_is_err_and c.from_residual.result c.from_residual.ensures.1 in
     rw (p.1, p.2) stop
 
 pub loop-j-preserved : goal.loop-j-preserved

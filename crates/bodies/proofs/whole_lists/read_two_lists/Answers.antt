@@ -9,7 +9,7 @@ use Rattle.bodies.proofs.whole_lists.read_two_lists.Goals as goal
 pub returns-in_err-first : goal.returns-in_err-first
 returns-in_err-first c =
     let stop = missing_first c.args.start c.args.count (drop c.args.start c.args.body.now) _ c.in_err-first.ensures in
-    let p = err_from_is_err_and c.from-residual.result c.from-residual.ensures.1 in
+    let p = err_from_is_err_and c.from_residual.result c.from_residual.ensures.1 in
     rw (p.1, p.2) stop
 
 pub returns-in_err-second : goal.returns-in_err-second
@@ -22,7 +22,7 @@ returns-in_err-second c =
     let vs = take count first.values in
     let long = length-take-le count first.values (omega (arith, read.2, c.requires)) in
     let stop = refused_after vs body start first.end count _ read.0 long read.1 c.in_err-second.ensures in
-    let p = err_from_is_err_and c.from-residual-in_err-second.result c.from-residual-in_err-second.ensures.1 in
+    let p = err_from_is_err_and c.from_residual-in_err-second.result c.from_residual-in_err-second.ensures.1 in
     rw (p.1, p.2) stop
 
 pub returns : goal.returns

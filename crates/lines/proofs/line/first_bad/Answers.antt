@@ -20,10 +20,10 @@ pub loop-place-init : goal.loop-place-init
 loop-place-init c =
     let u : IsUtf8 c.args.line.now = search rules in
     let long : length c.args.line.now < 2 ^ 64 = search rules in
-    let it = c.into-iter-place-iterator.ensures.into-iter-gives in
+    let it = c.into_iter-place-iterator.ensures.into_iter-gives in
     let made = c.enumerate-place-items.ensures in
-    let rest : chars_rest (enumerate_source c.into-iter-place-iterator.result) ≡ c.args.line.now = ap (λ i. chars_rest (enumerate_source i)) it ∙ ap chars_rest made.source ∙ c.chars.ensures.rest in
-    let count : enumerate_count c.into-iter-place-iterator.result ≡ 0 = ap enumerate_count it ∙ made.count in
+    let rest : chars_rest (enumerate_source c.into_iter-place-iterator.result) ≡ c.args.line.now = ap (λ i. chars_rest (enumerate_source i)) it ∙ ap chars_rest made.source ∙ c.chars.ensures.rest in
+    let count : enumerate_count c.into_iter-place-iterator.result ≡ 0 = ap enumerate_count it ∙ made.count in
     ((tt, tt, omega (arith, ap length rest)), tt, standing_start c.args.line.now _ _ u rest count, λ j h. absurd (omega arith))
 
 pub returns-then-is_none : goal.returns-then-is_none

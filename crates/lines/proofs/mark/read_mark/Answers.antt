@@ -22,10 +22,10 @@ pub returns-in_default : goal.returns-in_default
 unfolding cell_of_mark
 returns-in_default c = search rules
 
-pub returns-in_default·2 : goal.returns-in_default·2
+pub returns-in_default-2 : goal.returns-in_default-2
 unfolding cell_of_mark
-returns-in_default·2 c = search rules
+returns-in_default-2 c = search rules
 
-pub returns-in_default·3 : goal.returns-in_default·3
+pub returns-in_default-3 : goal.returns-in_default-3
 unfolding cell_of_mark
-returns-in_default·3 c = search rules
+returns-in_default-3 c = search rules

@@ -7,7 +7,7 @@ pub returns-in_err-length : goal.returns-in_err-length
 returns-in_err-length c =
     let first = c.in_ok-kind_read.ensures in
     let stop = c.in_err-length.ensures in
-    let p = err_from_is_err_and c.from-residual-in_err-length.result c.from-residual-in_err-length.ensures.1 in
+    let p = err_from_is_err_and c.from_residual-in_err-length.result c.from_residual-in_err-length.ensures.1 in
     let refused = no_length c.args.turn c.args.place c.args.file.now c.in-Some.kind c.in-Some-task_of.task c.in_ok-kind_read.kind_read.value
     c.in_ok-kind_read.kind_read.end first.0 first.1 c.in-Some.ensures c.in-Some-task_of.ensures stop.0 _ stop.1 stop.2 in
     rw (p.1, p.2) (inr (inr (inr (inl refused))))
