@@ -1,11 +1,13 @@
-use Rattle.std.proofs.Common.{◌≡◌, ℕ, ◌+◌, ◌^◌, ◌<◌, Bool, true, false, not, List, length, get_or, is_some, Some, None, IsUtf8, Option, sym, refl, ap, ◌∙◌, subst, ⊎_elim, arith, rules}
+use Rattle.std.proofs.Common.{◌≡◌, ℕ, ◌<◌, Bool, true, false, not, length, get_or, is_some, Some, None, Option, sym, refl, ap, ◌∙◌, ⊎_elim, arith}
 use Rattle.std.specs.Str.{chars}
-use Rattle.std.specs.Str.Iter.{chars_rest}
-use Rattle.std.specs.Iterator.Adapters.{enumerate_source, enumerate_count}
 use Rattle.std.proofs.lemmas.Bool.{cases_eq, true≢false}
+use Rattle.std.proofs.lemmas.Iterator.{YieldsList-from_chars}
+use Rattle.std.proofs.lemmas.Iterator.Consumers.{YieldsList-from_enumerate, YieldsList-turn, YieldsList-end}
+use Rattle.std.proofs.lemmas.List.{length_push}
+use Rattle.std.proofs.lemmas.List.FromFn.{length-enumerate_from}
 use Rattle.codes.specs.declared.cell.Cell.{Cell}
 use Rattle.lines.specs.Lines.{marked_cell}
-use Rattle.lines.proofs.Characters.{Standing, standing_start, standing_step, standing_end, count_fits}
+use Rattle.lines.proofs.Characters.{turn_of}
 use Rattle.lines.proofs.line.first_bad.Goals as goal
 
 none_of : (o : Option Cell) (b : Bool) → is_some o ≡ not b → b ≡ true → o ≡ None
@@ -16,45 +18,30 @@ some_of : (o : Option Cell) (b : Bool) → is_some o ≡ not b → b ≡ false �
 some_of None b e f is = true≢false (ap not (sym f) ∙ sym e)
 some_of (Some x) b e f is = true≢false (ap is_some is)
 
-pub loop-place-init : goal.loop-place-init
-loop-place-init c =
-    let u : IsUtf8 c.args.line.now = search rules in
-    let long : length c.args.line.now < 2 ^ 64 = search rules in
-    let it = c.into_iter-place-iterator.ensures.into_iter-gives in
-    let made = c.enumerate-place-items.ensures in
-    let rest : chars_rest (enumerate_source c.into_iter-place-iterator.result) ≡ c.args.line.now = ap (λ i. chars_rest (enumerate_source i)) it ∙ ap chars_rest made.source ∙ c.chars.ensures.rest in
-    let count : enumerate_count c.into_iter-place-iterator.result ≡ 0 = ap enumerate_count it ∙ made.count in
-    ((tt, tt, omega (arith, ap length rest)), tt, standing_start c.args.line.now _ _ u rest count, λ j h. absurd (omega arith))
-
 pub returns-then-is_none : goal.returns-then-is_none
 returns-then-is_none c =
-    let step = c.in-Some.ensures.steps in
-    let inv = c.loop-place.invariant in
-    let next = standing_step c.args.line.now _ _ _ c.in-Some.mark inv.2 step.0.0 in
-    let at = step.1 in
-    let within = next.within in (
+    let road = YieldsList-from_enumerate (YieldsList-from_chars c.args.line.now c.utf8.line (cc)) (cc) in
+    let t = YieldsList-turn road c.loop-place.yielded _ c.loop-place.yielded_by _ _ (c.in-Some.place, c.in-Some.mark) c.in-Some.is c.next.ensures.steps in
+    let turn = turn_of (chars c.args.line.now) _ _ _ t in
+    let at = turn.at in
+    let within = turn.within in (
       omega arith,
-      ap (marked_cell c.args.letters) (ap (λ n. get_or (chars c.args.line.now) n 0) at ∙ next.is) ∙ sym c.marked.ensures ∙ none_of _ _ c.is_none.ensures c.if-is_none.true,
-      λ j h. inv.3 j (omega arith),
+      ap (marked_cell c.args.letters) (ap (λ n. get_or (chars c.args.line.now) n 0) at ∙ turn.is) ∙ sym c.marked.ensures ∙ none_of _ _ c.is_none.ensures c.if-is_none.true,
+      λ j h. c.loop-place.invariant j (omega arith),
     )
 
 pub loop-place-preserved : goal.loop-place-preserved
-loop-place-preserved c =
-    let step = c.in-Some.ensures.steps in
-    let inv = c.loop-place.invariant in
-    let next = standing_step c.args.line.now _ _ _ c.in-Some.mark inv.2 step.0.0 in
-    let count = step.2 in (
-      (tt, tt, count_fits _ _ _ _ c.in-Some.mark step.0.0 count inv.0.2),
-      tt,
-      subst (Standing c.args.line.now _) (sym count) next.next,
-      λ j h bad. ⊎_elim
-          (λ here. some_of _ _ c.is_none.ensures c.if-is_none.false (c.marked.ensures ∙ ap (marked_cell c.args.letters) (sym next.is ∙ ap (λ n. get_or (chars c.args.line.now) n 0) (sym here)) ∙ bad))
-          (λ before. inv.3 j (omega arith) bad) (cases_eq j (enumerate_count c.loop-place.place-iterator)),
-    )
+loop-place-preserved c j h bad =
+    let road = YieldsList-from_enumerate (YieldsList-from_chars c.args.line.now c.utf8.line (cc)) (cc) in
+    let t = YieldsList-turn road c.loop-place.yielded _ c.loop-place.yielded_by _ _ (c.in-Some.place, c.in-Some.mark) c.in-Some.is c.next.ensures.steps in
+    let turn = turn_of (chars c.args.line.now) _ _ _ t in
+    let more = length_push c.loop-place.yielded (c.in-Some.place, c.in-Some.mark) in
+    ⊎_elim
+    (λ here. some_of _ _ c.is_none.ensures c.if-is_none.false (c.marked.ensures ∙ ap (marked_cell c.args.letters) (sym turn.is ∙ ap (λ n. get_or (chars c.args.line.now) n 0) (sym here)) ∙ bad))
+    (λ before. c.loop-place.invariant j (omega arith) bad) (cases_eq j (length c.loop-place.yielded))
 
 pub returns : goal.returns
 returns c j h =
-    let ended = c.in-None.ensures.steps.0.0.0 in
-    let inv = c.loop-place.invariant in
-    let all = standing_end c.args.line.now _ _ inv.2 ended in
-    inv.3 j (omega arith)
+    let road = YieldsList-from_enumerate (YieldsList-from_chars c.args.line.now c.utf8.line (cc)) (cc) in
+    let t = YieldsList-end road c.loop-place.yielded _ c.loop-place.yielded_by _ _ c.in-None.is c.next.ensures.steps in
+    c.loop-place.invariant j (omega (arith, t.1, length-enumerate_from 0 (chars c.args.line.now)))

@@ -1,14 +1,8 @@
-use Rattle.std.proofs.Common.{◌≡◌, ℕ, ◌<◌, get_or, None}
-use Rattle.std.specs.Str.Iter.{chars_rest}
-use Rattle.std.specs.Iterator.Adapters.{enumerate_source, enumerate_count}
+use Rattle.std.proofs.Common.{◌≡◌, ℕ, ◌<◌, length, get_or, None}
 use Rattle.std.specs.Str.{chars}
 use Rattle.lines.specs.Lines.{marked_cell}
-use Rattle.lines.proofs.Characters.{Standing}
 use Rattle.lines.proofs.line.first_bad.Given as goal
 
 -- no mark so far is bad
 abbrev pub invariant-loop-place : goal.invariant-loop-place
-invariant-loop-place l =
-    (goal.iterator-loop-place).can_next l.place-iterator × (goal.iterator-loop-place).is_finite l.place-iterator
-    × Standing l.line (chars_rest (enumerate_source l.place-iterator)) (enumerate_count l.place-iterator)
-    × ((j : ℕ) → j < enumerate_count l.place-iterator → marked_cell l.letters (get_or (chars l.line) j 0) ≡ None → ⊥)
+invariant-loop-place l = (j : ℕ) → j < length l.yielded → marked_cell l.letters (get_or (chars l.line) j 0) ≡ None → ⊥
