@@ -9,8 +9,8 @@ pub returns : goal.returns
 returns g c =
     let tag = c.args.tag.now in
     let A = (g.F.Field.meaning tag.card.now.field).arithmetic in
-    let front = in_front fresh_buffer c.read_answer.new.word c.args.length c.min-end.result c.read_answer.auto.word c.min-end.ensures in
+    let front = in_front fresh_buffer c.read-answer.new.word c.args.length c.min-end.result c.read-answer.auto.word c.min-end.ensures in
     record {
-      reading = subst₂ (λ (before after : List ℕ). Reading A (tag_code tag) (tag_cells tag) before after c.read_answer.result) front.lent (sym front.written) c.read_answer.ensures;
+      reading = subst₂ (λ (before after : List ℕ). Reading A (tag_code tag) (tag_cells tag) before after c.read-answer.result) front.lent (sym front.written) c.read-answer.ensures;
       rest = front.rest;
     }

@@ -19,14 +19,13 @@ invariant_of-self g c =
     let cells = tag.table.cells in
     let after = c.read_line.new.cells in
     let marks = chars c.args.line.now in
-    let own = own_line card cells after marks c.read_line.result c.width-width.result _ c.width-width.ensures.is (ap (λ (d : Code). d.letters) c.code-letters.ensures) tag.long c.read_line.auto.cells c.read_line.ensures in (
-      same_len_mid 0 (c.width-width.result - 0) cells after c.read_line.auto.cells ∙ tag.long,
-      (
+    let own = own_line card cells after marks c.read_line.result c.width-width.result _ c.width-width.ensures.is (ap (λ (d : Code). d.letters) c.code-letters.ensures) tag.long c.read_line.auto.cells c.read_line.ensures in
+    record {
+      long = same_len_mid 0 (c.width-width.result - 0) cells after c.read_line.auto.cells ∙ tag.long;
+      lettered =
         subst (λ (own-cells : List Cell). ∥ Lettered card.letters own-cells ∥₁) (sym (take_at after _ card.cells own.after_long))
-            (lettered_line card.letters marks (take card.cells cells) after c.read_line.result own.read tag.lettered),
-        tt,
-      ),
-    )
+            (lettered_line card.letters marks (take card.cells cells) after c.read_line.result own.read tag.lettered);
+    }
 
 pub returns : goal.returns
 returns g c =

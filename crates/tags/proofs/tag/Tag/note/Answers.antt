@@ -14,14 +14,13 @@ invariant_of-self g c =
     let tag = c.args.self.now in
     let card = tag.card.now in
     let below : c.args.letter < card.letters = omega (arith, ap (λ (d : Code). d.letters) c.code.ensures) in
-    let changed = c.put.ensures ∙ ap (set tag.table.cells _) c.noted.ensures in (
-      ap length changed ∙ length-set _ _ _ ∙ tag.long,
-      (
+    let changed = c.put.ensures ∙ ap (set tag.table.cells _) c.noted.ensures in
+    record {
+      long = ap length changed ∙ length-set _ _ _ ∙ tag.long;
+      lettered =
         subst (λ (cells : List Cell). ∥ Lettered card.letters (take card.cells cells) ∥₁) (sym changed)
-            (lettered_changed card.letters card.cells tag.table.cells _ (noted_cell c.args.letter) (omega arith) below tag.lettered),
-        tt,
-      ),
-    )
+            (lettered_changed card.letters card.cells tag.table.cells _ (noted_cell c.args.letter) (omega arith) below tag.lettered);
+    }
 
 pub returns : goal.returns
 returns g c =

@@ -9,7 +9,7 @@ use Rattle.tags.proofs.tag.Tag.open.Goals as goal
 pub invariant_of-result : goal.invariant_of-result
 invariant_of-result g c =
     let card = c.args.card.now in
-    (refl, (∣ subst (Lettered card.letters) (sym (take-replicate card.cells 256 blank_cell card.long)) (lettered_blank card.letters card.cells) ∣₁, tt))
+    record { long = refl; lettered = ∣ subst (Lettered card.letters) (sym (take-replicate card.cells 256 blank_cell card.long)) (lettered_blank card.letters card.cells) ∣₁ }
 
 pub returns : goal.returns
 returns g c =

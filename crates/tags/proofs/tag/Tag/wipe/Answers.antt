@@ -12,14 +12,13 @@ pub invariant_of-self : goal.invariant_of-self
 invariant_of-self g c =
     let tag = c.args.self.now in
     let card = tag.card.now in
-    let changed = c.put.ensures ∙ ap (set tag.table.cells _) c.blank.ensures in (
-      ap length changed ∙ length-set _ _ _ ∙ tag.long,
-      (
+    let changed = c.put.ensures ∙ ap (set tag.table.cells _) c.blank.ensures in
+    record {
+      long = ap length changed ∙ length-set _ _ _ ∙ tag.long;
+      lettered =
         subst (λ (cells : List Cell). ∥ Lettered card.letters (take card.cells cells) ∥₁) (sym changed)
-            (lettered_changed card.letters card.cells tag.table.cells _ blank_cell (omega arith) tt tag.lettered),
-        tt,
-      ),
-    )
+            (lettered_changed card.letters card.cells tag.table.cells _ blank_cell (omega arith) tt tag.lettered);
+    }
 
 pub returns : goal.returns
 returns g c =
