@@ -8,7 +8,10 @@ use Rattle.traylines.proofs.word_reading.read_word.Goals as goal
 
 pub invariant_of-result : goal.invariant_of-result
 invariant_of-result g c =
-    (omega (arith, c.cells-count.ensures.count, c.args.card.now.long), (same_len_mid 0 (c.cells-count.result - 0) _ c.read_cells-2.new.word c.read_cells-2.auto.word ∙ length-replicate {A = ℕ} largest_cells 0, tt))
+    record {
+      few = omega (arith, c.cells-count.ensures.count, c.args.card.now.long);
+      long = same_len_mid 0 (c.cells-count.result - 0) _ c.read_cells-2.new.word c.read_cells-2.auto.word ∙ length-replicate {A = ℕ} largest_cells 0;
+    }
 
 pub returns-in-Ok-read_cells : goal.returns-in-Ok-read_cells
 returns-in-Ok-read_cells g c =

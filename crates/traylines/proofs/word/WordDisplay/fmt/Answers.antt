@@ -12,7 +12,7 @@ pub loop-letter-preserved : goal.loop-letter-preserved
 loop-letter-preserved g c plain =
     let letters = c.args.self.now.letters.now in
     let so_far = c.loop-letter.invariant plain in
-    let step = c.in_ok-write.ensures.shows so_far.plain refl in
+    let step = c.in_ok-write.ensures.writes so_far.plain refl in
     has_written_of_eq g.W.Write.write_str_gives c.args.f.now _ _ _ (word_more letters c.loop-letter.letter-index c.loop-letter-test.true)
     (has_written_append g.W.Write.write_str_gives c.args.f.now _ c.loop-letter.f _ _ so_far step)
 
