@@ -1,5 +1,5 @@
 -- The definitions at work, modulo 7: a code of length 4 with locators 1, 2, 3, 4, multipliers 1 and 2 sums. Assumes nothing.
-use Rattle.std.proofs.Common.{◌≡◌, ℕ, suc, ◌+◌, ◌-◌, ◌*◌, ◌%◌, List, [], ◌∷◌, get_or, refl}
+use Rattle.std.proofs.Common.{◌≡◌, ℕ, suc, ◌+◌, ◌-◌, ◌*◌, ◌%◌, [], ◌∷◌, get_or, refl}
 use Rattle.algebra.specs.Meaning.{Arithmetic, Meaning, with_inverses}
 use Rattle.algebra.specs.Polynomial.{evaluate, annihilator, quotient_linear, act, divide}
 use Rattle.algebra.specs.Places.{failing}

@@ -1,6 +1,6 @@
 -- The inverse laws, from the ring's laws and an inverse for each element other than 0. Assumes nothing.
-use Rattle.std.proofs.Common.{◌≡◌, ℕ, zero, suc, ◌<◌, ◌≤◌, Bool, true, false, cond, eqb, ◌⊎◌, Some, None, Option, sym, refl, ap, ◌∙◌, subst, inl, inr, ⊎_elim, arith}
-use Rattle.std.proofs.lemmas.Bool.{eqb-true, eq-eqb, ne_eqb, cases_Bool, cases_eq, cond-true, cond-false, both_ways}
+use Rattle.std.proofs.Common.{◌≡◌, ℕ, zero, suc, ◌<◌, Bool, true, false, cond, eqb, ◌⊎◌, Some, None, Option, refl, ap, ◌∙◌, inl, inr, ⊎_elim, arith}
+use Rattle.std.proofs.lemmas.Bool.{eqb-true, eq-eqb, ne_eqb, cases_eq, cond-true, cond-false, both_ways}
 use Rattle.algebra.specs.Meaning.{Arithmetic, first, or_else, inverse_in, with_inverses}
 use Rattle.algebra.specs.Laws.{Total, RingLaws, InverseOf, InverseLaws}
 use Rattle.algebra.proofs.RingFacts.{inverse_only, zero_times}

@@ -1,14 +1,14 @@
 -- Remainders after division by a modulus that has no factors make a field, with one inverse for each element other
 -- than 0: said once, for whole numbers and for polynomials. Assumes nothing.
-use Rattle.std.proofs.Common.{◌≡◌, ℕ, zero, suc, ◌<◌, ◌≤◌, ◌⊎◌, sym, refl, ap, ◌∙◌, subst, ap₂, inl, inr, ⊎_elim, arith}
+use Rattle.std.proofs.Common.{◌≡◌, ℕ, zero, suc, ◌<◌, ◌≤◌, sym, ap, ◌∙◌, ap₂, ⊎_elim, arith}
 use mathlib.Core.Path.{subst⁻¹}
-use Rattle.std.proofs.lemmas.Bool.{cases_eq, cases_lt}
+use Rattle.std.proofs.lemmas.Bool.{cases_eq}
 use Rattle.algebra.specs.Meaning.{Arithmetic, arithmetic_of, with_inverses}
 use Rattle.algebra.specs.Limits.{largest_size}
 use Rattle.algebra.specs.Laws.{Total, RingLaws, InverseLaws, Laws}
 use Rattle.algebra.proofs.OnElements.{on_elements_inside, on_elements_outside, on_elements_below}
-use Rattle.algebra.proofs.RingFacts.{zero_element, plus_cancel, plus_times, zero_times, one_times, zero_plus}
-use Rattle.algebra.proofs.Inverses.{HasInverses, inverse_laws}
+use Rattle.algebra.proofs.RingFacts.{plus_cancel, plus_times, zero_times}
+use Rattle.algebra.proofs.Inverses.{inverse_laws}
 
 -- What a modulus gives. `add` and `mul` work on all numbers, `reduce` takes the remainder, and the three operations are
 -- the reduced ones where both arguments are remainders.

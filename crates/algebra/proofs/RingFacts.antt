@@ -1,8 +1,7 @@
 -- What the laws of a ring give for its elements. Assumes nothing.
-use Rattle.std.proofs.Common.{◌≡◌, ℕ, zero, suc, ◌<◌, sym, refl, ap, ◌∙◌, ap₂, arith}
+use Rattle.std.proofs.Common.{◌≡◌, ℕ, ◌<◌, sym, ap, ◌∙◌, ap₂, arith}
 use Rattle.algebra.specs.Meaning.{Arithmetic}
 use Rattle.algebra.specs.Laws.{Total, RingLaws}
-use Rattle.algebra.specs.Power.{times_power, power}
 
 module _ (A : Arithmetic) (total : Total A) (ring : RingLaws A) where
   pub zero_element : 0 < A.size

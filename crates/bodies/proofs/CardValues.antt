@@ -1,11 +1,11 @@
 -- A card's values against the body that they stand in. Assumes nothing.
-use Rattle.std.proofs.Common.{◌≡◌, ℕ, ◌+◌, ◌<◌, ◌≤◌, ◌⊎◌, List, [], ◌∷◌, ◌++◌, length, take, drop, sym, refl, ap, ◌∙◌, subst, inl, inr, arith}
+use Rattle.std.proofs.Common.{◌≡◌, ℕ, ◌+◌, List, ◌∷◌, ◌++◌, length, take, drop, sym, ap, ◌∙◌, subst, arith}
 use Rattle.std.proofs.lemmas.List.{length-take-le}
 use Rattle.algebra.specs.Limits.{largest_cells}
 use Rattle.algebra.specs.Meaning.{Meaning}
 use Rattle.algebra.specs.Alphabet.{Alphabet}
 use Rattle.codes.specs.Code.{Code}
-use Rattle.codes.specs.Cards.{Shape, CardRefused}
+use Rattle.codes.specs.Cards.{CardRefused}
 use Rattle.codes.specs.declared.card_cause.CardCause.{CardCause}
 use Rattle.codes.specs.declared.card_cause.CardCause.TheVariants.{BadShape, NoAlphabet, BadLocator, BadMultiplier}
 use Rattle.faults.specs.declared.layer.BodyFault.{BodyFault}
@@ -13,7 +13,7 @@ use Rattle.faults.specs.declared.layer.BodyFault.TheVariants.{BadNumber, BadBody
 use Rattle.bodies.specs.declared.card_head.CardHead.{CardHead}
 use Rattle.bodies.specs.NumberLists.{numbers, after, Begins}
 use Rattle.bodies.specs.WholeLists.{ListRefused, Are}
-use Rattle.bodies.specs.CardHeads.{head_numbers, HeadShape, HeadFits}
+use Rattle.bodies.specs.CardHeads.{head_numbers, HeadFits}
 use Rattle.bodies.specs.CardBodies.{card_body, Values, ValuesRefused}
 use Rattle.bodies.proofs.NumberLists.{numbers_append}
 

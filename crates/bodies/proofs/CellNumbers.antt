@@ -1,12 +1,12 @@
 -- Cells and their numbers. Assumes nothing.
 use Rattle.std.proofs.Common.{◌≡◌, ℕ, zero, suc, ◌+◌, ◌<◌, ◌≤◌, List, [], ◌∷◌, ◌++◌, map, length, get_or, take, set, sym, refl, ap, ◌∙◌, subst, ap₂, add-one, arith}
-use Rattle.std.proofs.lemmas.List.{length-map, length-take-le, get_or-map, take_more_set, map_more, take_all, length-set}
-use Rattle.codes.specs.Cells.{blank_cell, noted_cell}
+use Rattle.std.proofs.lemmas.List.{length-map, get_or-map, take_more_set, map_more}
+use Rattle.codes.specs.Cells.{blank_cell}
 use Rattle.codes.specs.Verdicts.{Lettered, BelowIfNoted}
 use Rattle.codes.specs.declared.cell.Cell.{Cell}
 use Rattle.bodies.specs.NumberLists.{numbers, Small}
 use Rattle.bodies.specs.WholeLists.{Are}
-use Rattle.bodies.specs.CellBodies.{cell_number, cells_body, cell_of_number, cells_of, UpTo, CellsIn}
+use Rattle.bodies.specs.CellBodies.{cell_number, cell_of_number, cells_of, UpTo, CellsIn}
 
 pub number_of_cell_of : (v : ℕ) → cell_number (cell_of_number v) ≡ v
 number_of_cell_of zero = refl

@@ -1,10 +1,10 @@
 -- Lists of numbers that end where the body ends. Assumes nothing.
-use Rattle.std.proofs.Common.{◌≡◌, ℕ, ◌+◌, ◌<◌, ◌≤◌, ◌⊎◌, List, [], ◌∷◌, ◌++◌, length, take, drop, sym, refl, ap, ◌∙◌, subst, inl, inr, ⊎_elim, arith}
+use Rattle.std.proofs.Common.{◌≡◌, ℕ, ◌+◌, ◌<◌, ◌≤◌, List, ◌++◌, length, drop, sym, ap, ◌∙◌, subst, inl, inr, ⊎_elim, arith}
 use Rattle.std.proofs.lemmas.List.{append-nil, length-append, length-drop, drop_all}
 use Rattle.numbers.specs.NumberReading.{EndsInside, NoNumber}
 use Rattle.faults.specs.declared.layer.BodyFault.{BodyFault}
 use Rattle.faults.specs.declared.layer.BodyFault.TheVariants.{BadNumber, BadBody, BadNote, Field, Card, Tag}
-use Rattle.bodies.specs.NumberLists.{numbers, Small, after, Begins, Stops, NumberMissing}
+use Rattle.bodies.specs.NumberLists.{numbers, after, Begins, Stops, NumberMissing}
 use Rattle.bodies.specs.WholeLists.{GoesOn, ListRefused, Are}
 use Rattle.bodies.proofs.NumberLists.{from_end, numbers_append, small_append, length_numbers_append, after_append, begins_append}
 

@@ -1,12 +1,12 @@
 -- Numbers that stand one after another. Assumes nothing.
-use Rattle.std.proofs.Common.{◌≡◌, ℕ, ◌+◌, ◌<◌, ◌≤◌, List, [], ◌∷◌, ◌++◌, length, take, drop, Ok, Err, Result, sym, refl, ap, ◌∙◌, subst, arith}
-use Rattle.std.proofs.lemmas.List.{append_assoc, append-nil, length-append, drop-drop, drop_at}
-use Rattle.numbers.specs.Numbers.{largest_number, number_bytes}
+use Rattle.std.proofs.Common.{◌≡◌, ℕ, ◌+◌, ◌<◌, List, [], ◌∷◌, ◌++◌, length, drop, Ok, Err, sym, refl, ap, ◌∙◌, subst, arith}
+use Rattle.std.proofs.lemmas.List.{append_assoc, append-nil, length-append, drop-drop}
+use Rattle.numbers.specs.Numbers.{number_bytes}
 use Rattle.numbers.specs.NumberReading.{StandsFirst, EndsInside, NoNumber}
 use Rattle.numbers.specs.declared.number_reading.NumberRead.{NumberRead}
 use Rattle.faults.specs.declared.layer.BodyFault.{BodyFault}
 use Rattle.faults.specs.declared.layer.BodyFault.TheVariants.{BadNumber, BadBody, BadNote, Field, Card, Tag}
-use Rattle.bodies.specs.NumberLists.{numbers, Small, after, Begins, Stops, NumberMissing, NumberIn}
+use Rattle.bodies.specs.NumberLists.{numbers, Small, after, Begins, NumberMissing, NumberIn}
 
 pub numbers_append : (vs ws : List ℕ) → numbers (vs ++ ws) ≡ numbers vs ++ numbers ws
 numbers_append [] ws = refl

@@ -1,5 +1,5 @@
 -- A card's body is read as that card only. Assumes nothing.
-use Rattle.std.proofs.Common.{◌≡◌, ℕ, suc, ◌+◌, ◌<◌, ◌≤◌, ◌⊎◌, List, [], ◌∷◌, ◌++◌, length, get_or, take, drop, Ok, Err, Result, sym, refl, ap, ◌∙◌, subst, ap₂, inl, inr, ⊎_elim, arith}
+use Rattle.std.proofs.Common.{◌≡◌, ℕ, suc, ◌+◌, ◌<◌, ◌≤◌, ◌⊎◌, List, [], ◌∷◌, ◌++◌, length, get_or, take, drop, Ok, Err, sym, refl, ap, ◌∙◌, subst, ap₂, ⊎_elim, arith}
 use Rattle.std.proofs.lemmas.List.{length-append, take_at, drop_at}
 use Rattle.algebra.specs.Meaning.{Meaning, with_inverses}
 use Rattle.algebra.specs.Alphabet.{Alphabet}
@@ -28,9 +28,9 @@ use Rattle.bodies.specs.declared.card_body.TrayCard.{TrayCard}
 use Rattle.bodies.specs.declared.card_body.TrayCard.TheVariants.{Prime, Binary}
 use Rattle.bodies.specs.NumberLists.{numbers, Small, after, Begins}
 use Rattle.bodies.specs.WholeLists.{Are}
-use Rattle.bodies.specs.CardHeads.{head_count, head_numbers, HeadShape, PrimeHead, BinaryHead, FieldOf}
-use Rattle.bodies.specs.CardBodies.{card_body, Values, ValuesRefused, HeadRefused, RestRefused, PrimeCardIn, BinaryCardIn, CardIn, CardRead}
-use Rattle.bodies.specs.SameCards.{SameCard, CardReadsBack}
+use Rattle.bodies.specs.CardHeads.{head_count, head_numbers, HeadShape, PrimeHead, BinaryHead}
+use Rattle.bodies.specs.CardBodies.{card_body, ValuesRefused, HeadRefused, RestRefused, PrimeCardIn, BinaryCardIn, CardIn, CardRead}
+use Rattle.bodies.specs.SameCards.{CardReadsBack}
 use Rattle.bodies.proofs.NumberLists.{numbers_append, small_append}
 use Rattle.bodies.proofs.SameNumbers.{begins_of, are_begins, same_list, missing_never, list_never}
 

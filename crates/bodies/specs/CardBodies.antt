@@ -1,5 +1,5 @@
 -- The bodies of card records. Assumes nothing.
-use Rattle.std.specs.Prelude.{◌≡◌, ℕ, ◌+◌, ◌⊎◌, List, [], ◌∷◌, ◌++◌, length, Ok, Err, Result, ◌≢◌}
+use Rattle.std.specs.Prelude.{◌≡◌, ℕ, ◌+◌, ◌⊎◌, List, ◌∷◌, ◌++◌, length, Ok, Err, Result, ◌≢◌}
 use Rattle.algebra.specs.Meaning.{Meaning}
 use Rattle.algebra.specs.Alphabet.{Alphabet}
 use Rattle.fields.specs.Modulo.{Listed}
@@ -7,20 +7,17 @@ use Rattle.fields.specs.Prime.{prime_meaning}
 use Rattle.fields.specs.Binary.{BinaryModulus, binary_meaning}
 use Rattle.fields.specs.declared.prime_field.PrimeField.{PrimeField}
 use Rattle.fields.specs.declared.binary_field.BinaryField.{BinaryField}
-use Rattle.fields.specs.declared.cause.FieldCause.{FieldCause}
 use Rattle.fields.specs.declared.cause.FieldCause.TheVariants.{NoPrime, BadModulus}
 use Rattle.codes.specs.Code.{Code}
 use Rattle.codes.specs.Cards.{Checked, LocatorsFit, MultipliersFit, card_code}
 use Rattle.fields.specs.Kinds.{prime_kind, binary_kind}
 use Rattle.codes.specs.declared.card.Card as cards
-use Rattle.codes.specs.declared.card_cause.CardCause.{CardCause}
 use Rattle.codes.specs.declared.card_cause.CardCause.TheVariants.{BadShape, NoAlphabet, BadLocator, BadMultiplier}
 use Rattle.bodies.specs.NumberLists.{numbers, after, Begins, NumberMissing}
 use Rattle.bodies.specs.WholeLists.{ListRefused, Are}
 use Rattle.bodies.specs.CardHeads.{head_count, head_numbers, HeadShape, FieldOf, HeadFits}
 use Rattle.faults.specs.declared.layer.BodyFault.{BodyFault}
 use Rattle.faults.specs.declared.layer.BodyFault.TheVariants.{BadNumber, BadBody, BadNote, Field, Card, Tag}
-use Rattle.faults.specs.declared.layer.FieldFault.{FieldFault}
 use Rattle.faults.specs.declared.layer.FieldFault.TheVariants.{NoSuchField, Made}
 use Rattle.bodies.specs.declared.card_head.CardHead.{CardHead}
 use Rattle.bodies.specs.declared.card_head.ReadHead.{ReadHead}

@@ -1,5 +1,5 @@
 -- What the check of a cells record must know of its card. Assumes nothing.
-use Rattle.std.specs.Prelude.{◌≡◌, ℕ, length}
+use Rattle.std.specs.Prelude.{◌≡◌, length}
 use Rattle.codes.specs.Code.{Code}
 use Rattle.codes.specs.Cards.{card_code}
 use Rattle.bodies.specs.declared.card_shape.CardShape.{CardShape}

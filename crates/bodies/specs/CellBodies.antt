@@ -1,5 +1,5 @@
 -- The bodies of cells records. Assumes nothing.
-use Rattle.std.specs.Prelude.{◌≡◌, ℕ, zero, suc, ◌+◌, ◌<◌, ◌≤◌, List, [], ◌∷◌, map, length, take, Some, None, Ok, Err, Option, Result, ◌≢◌, slice_index}
+use Rattle.std.specs.Prelude.{◌≡◌, ℕ, zero, suc, ◌+◌, ◌<◌, ◌≤◌, List, map, length, take, Some, None, Ok, Err, Option, Result, ◌≢◌, slice_index}
 use Rattle.algebra.specs.Limits.{largest_cells}
 use Rattle.codes.specs.Code.{Code}
 use Rattle.codes.specs.Cells.{blank_cell, noted_cell}
@@ -9,7 +9,6 @@ use Rattle.bodies.specs.NumberLists.{numbers, Small}
 use Rattle.bodies.specs.WholeLists.{ListRefused, Are}
 use Rattle.faults.specs.declared.layer.BodyFault.{BodyFault}
 use Rattle.faults.specs.declared.layer.BodyFault.TheVariants.{BadNumber, BadBody, BadNote, Field, Card, Tag}
-use Rattle.faults.specs.declared.layer.TagCause.{TagCause}
 use Rattle.faults.specs.declared.layer.TagCause.TheVariants.{NoLetter}
 use Rattle.bodies.specs.declared.number_list.NumberList.{NumberList}
 use Rattle.bodies.specs.declared.cells_refusal.CellsRefusal.{CellsRefusal}

@@ -1,5 +1,5 @@
 -- That a body has one reading. Assumes nothing.
-use Rattle.std.specs.Prelude.{◌≡◌, ℕ, List, length, Ok, Err, Result}
+use Rattle.std.specs.Prelude.{◌≡◌, ℕ, List, length, Ok, Result}
 use Rattle.codes.specs.Code.{Code}
 use Rattle.codes.specs.Cards.{card_code}
 use Rattle.codes.specs.declared.cell.Cell.{Cell}

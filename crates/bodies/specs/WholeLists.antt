@@ -1,5 +1,5 @@
 -- Lists of numbers that end where the body ends. Assumes nothing.
-use Rattle.std.specs.Prelude.{◌≡◌, ℕ, ◌+◌, ◌<◌, ◌≤◌, ◌⊎◌, List, ◌++◌, length, take, Ok, Err, Result}
+use Rattle.std.specs.Prelude.{◌≡◌, ℕ, ◌+◌, ◌<◌, ◌⊎◌, List, ◌++◌, length, take, Ok, Err, Result}
 use Rattle.algebra.specs.Limits.{largest_cells}
 use Rattle.numbers.specs.NumberReading.{EndsInside, NoNumber}
 use Rattle.bodies.specs.NumberLists.{numbers, Small, after, Begins, Stops}

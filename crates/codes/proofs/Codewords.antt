@@ -1,15 +1,15 @@
 -- Cells without a blank are a codeword exactly when their letters are below the alphabet size and their sums are 0.
 -- Assumes nothing.
-use Rattle.std.proofs.Common.{◌≡◌, ℕ, ◌<◌, List, length, get_or, Some, Option, sym, refl, ap, ◌∙◌, subst, zero-add, arith}
+use Rattle.std.proofs.Common.{◌≡◌, ℕ, ◌<◌, List, length, get_or, sym, ◌∙◌, subst, zero-add, arith}
 use Rattle.std.proofs.lemmas.List.FromFn.{get_or-map-range_with_len, length-map-range_with_len}
 use Rattle.algebra.specs.Meaning.{Arithmetic}
 use Rattle.codes.specs.Code.{Code}
-use Rattle.codes.specs.Sums.{syndrome, syndromes, Lengths}
-use Rattle.codes.specs.Cells.{blank_cell, blanks, noted}
-use Rattle.codes.specs.Codeword.{Codeword, row_sum}
+use Rattle.codes.specs.Sums.{syndrome, syndromes}
+use Rattle.codes.specs.Cells.{noted}
+use Rattle.codes.specs.Codeword.{Codeword}
 use Rattle.codes.specs.Verdicts.{Lettered, AllZero, BelowIfNoted}
 use Rattle.codes.specs.declared.cell.Cell.{Cell}
-use Rattle.codes.proofs.Words.{letters_of, noted_letters, length_noted, get_or_noted, syndrome_noted}
+use Rattle.codes.proofs.Words.{length_noted, get_or_noted, syndrome_noted}
 
 pub get_or_syndromes : (A : Arithmetic) (code : Code) (cells : List Cell) (k : ℕ) → k < code.rows → get_or (syndromes A code cells) k 0 ≡ syndrome A code cells k
 unfolding syndromes

@@ -1,7 +1,7 @@
 -- Remainders of whole numbers: products, and what may be taken away on both sides. Assumes nothing.
-use Rattle.std.specs.Prelude.{◌≡◌, ℕ, ◌+◌, ◌-◌, ◌*◌, ◌/◌, ◌%◌, ◌<◌, ◌≤◌, refl}
-use Rattle.std.proofs.Common.{sym, ◌∙◌, ap, ap₂, add_assoc, add-zero, mul_comm, mul_assoc, mul-add, add-mul, mod-lt, div-add-mod', arith}
-use Rattle.std.proofs.Math.Nat.{mod_self, add-mod, mod-add-mod, add-mod-mod, mul-add-mod_self_right, mod-mod}
+use Rattle.std.specs.Prelude.{◌≡◌, ℕ, ◌+◌, ◌-◌, ◌*◌, ◌/◌, ◌%◌, ◌<◌}
+use Rattle.std.proofs.Common.{sym, ◌∙◌, ap, add_assoc, add-zero, mul_comm, mul_assoc, add-mul, mod-lt, div-add-mod', arith}
+use Rattle.std.proofs.Math.Nat.{mod_self, mod-add-mod, add-mod-mod, mul-add-mod_self_right}
 
 pub mul_mod_left : (a b p : ℕ) → (a % p * b) % p ≡ (a * b) % p
 mul_mod_left a b p =

@@ -1,7 +1,6 @@
 -- Whole numbers modulo a prime are a field. Assumes nothing.
 use Rattle.std.specs.Prelude.{◌≡◌, ℕ, ◌+◌, ◌-◌, ◌*◌, ◌/◌, ◌%◌, ◌^◌, ◌<◌, ◌≤◌, Some, refl}
 use Rattle.std.proofs.Common.{sym, ◌∙◌, ap, ⊎_elim, add_assoc, add_comm, add-zero, mul_assoc, mul_comm, mul-one, mul-zero, mul-add, mod-lt, mod-eq_of_lt, div-add-mod', arith}
-use Rattle.std.proofs.Math.Path.{subst⁻¹}
 use Rattle.std.proofs.Math.Nat.{mod_self, mod-add-mod, add-mod_right}
 use Rattle.std.proofs.lemmas.Bool.{cases_lt}
 use Rattle.std.proofs.lemmas.Nat.{mul-lt}

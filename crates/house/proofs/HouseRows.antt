@@ -1,5 +1,5 @@
 -- The house rows keep every rule of a card. Assumes nothing.
-use Rattle.std.proofs.Common.{◌≡◌, ℕ, zero, suc, ◌+◌, ◌<◌, ◌≤◌, refl, arith, lit≤, rules}
+use Rattle.std.proofs.Common.{◌≡◌, ℕ, zero, suc, refl, arith, lit≤, rules}
 use Rattle.fields.specs.Modulo.{Listed, stands_in}
 use Rattle.fields.specs.ListedPrimes.{listed_prime}
 use Rattle.fields.specs.PrimeModulus.{listed_laws, whole_alphabet}

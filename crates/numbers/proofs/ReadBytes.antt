@@ -1,14 +1,12 @@
 -- What the bytes from a place on tell of the number that begins there. Assumes nothing.
-use Rattle.std.proofs.Common.{◌≡◌, ℕ, ◌+◌, ◌-◌, ◌*◌, ◌<◌, ◌≤◌, ◌⊎◌, List, [], ◌∷◌, ◌++◌, length, get_or, drop, Ok, Err, Result, sym, refl, ap, ◌∙◌, subst, inl, inr, ⊎_elim, add-zero, arith}
-use Rattle.std.proofs.lemmas.List.{drop_more, get_or-drop, length-drop, drop_at}
-use Rattle.std.proofs.lemmas.Bool.{cases_lt, cases_eq}
+use Rattle.std.proofs.Common.{◌≡◌, ℕ, ◌+◌, ◌-◌, ◌*◌, ◌<◌, ◌≤◌, List, [], ◌∷◌, ◌++◌, length, get_or, drop, Ok, Err, sym, refl, ap, ◌∙◌, subst, ⊎_elim, add-zero, arith}
+use Rattle.std.proofs.lemmas.List.{drop_more, get_or-drop, length-drop}
+use Rattle.std.proofs.lemmas.Bool.{cases_eq}
 use Rattle.numbers.specs.Numbers.{largest_number, number_bytes}
-use Rattle.numbers.specs.NumberReading.{StandsFirst, EndsInside, NoNumber, NumberAnswered}
+use Rattle.numbers.specs.NumberReading.{StandsFirst, EndsInside, NoNumber}
 use Rattle.numbers.specs.NumberWriting.{ReadsBack}
-use Rattle.numbers.specs.declared.number_cause.NumberCause.{NumberCause}
 use Rattle.numbers.specs.declared.number_cause.NumberCause.TheVariants.{CutOff, BadNumber}
-use Rattle.numbers.specs.declared.number_reading.NumberRead.{NumberRead}
-use Rattle.numbers.proofs.NumberBytes.{one_byte, two_bytes, three_bytes, stands, ThreeFirst, zero_second, bad_third, same_number, not_inside}
+use Rattle.numbers.proofs.NumberBytes.{one_byte, two_bytes, three_bytes, stands, zero_second, bad_third, same_number, not_inside}
 
 module _ (bytes : List ℕ) (start : ℕ) where
   abbrev s : List ℕ

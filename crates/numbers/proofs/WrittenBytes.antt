@@ -1,7 +1,7 @@
 -- The bytes that the number writer puts into a buffer. Assumes nothing.
-use Rattle.std.proofs.Common.{◌≡◌, ℕ, ◌+◌, ◌*◌, ◌/◌, ◌%◌, ◌<◌, ◌≤◌, ◌⊎◌, List, [], ◌∷◌, ◌++◌, length, get_or, take, drop, set, sym, refl, ap, ◌∙◌, inl, inr, ⊎_elim, add-zero, arith}
+use Rattle.std.proofs.Common.{◌≡◌, ℕ, ◌+◌, ◌/◌, ◌%◌, ◌<◌, List, [], ◌∷◌, ◌++◌, length, get_or, take, drop, set, sym, refl, ap, ◌∙◌, ⊎_elim, add-zero, arith}
 use Rattle.std.proofs.lemmas.List.{append_assoc, take-append-drop, length-append, length-take-le, drop_more, set_at}
-use Rattle.numbers.specs.Numbers.{largest_number, number_bytes}
+use Rattle.numbers.specs.Numbers.{number_bytes}
 use Rattle.numbers.specs.NumberWriting.{put_at}
 use Rattle.numbers.proofs.NumberBytes.{OneByte, TwoBytes, ThreeBytes, bytes_of}
 

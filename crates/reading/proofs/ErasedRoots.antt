@@ -1,19 +1,18 @@
 -- Where a codeword is near the cells, a minimal realisation of the modified syndromes is 0 at every wrong cell, and filling the
 -- cells without its roots gives the codeword. Assumes nothing.
-use Rattle.std.proofs.Common.{◌≡◌, ℕ, zero, suc, ◌+◌, ◌-◌, ◌*◌, ◌<◌, ◌≤◌, Bool, true, false, cond, not, eqb, ◌⊎◌, List, map, length, get_or, take, is_some, Some, None, Option, unwrap_or, sym, refl, ap, ◌∙◌, subst, ap₂, inl, inr, ⊎_elim, zero-add, arith}
+use Rattle.std.proofs.Common.{◌≡◌, ℕ, suc, ◌+◌, ◌-◌, ◌<◌, ◌≤◌, Bool, true, false, cond, not, List, map, length, get_or, take, is_some, Some, None, Option, unwrap_or, sym, refl, ap, ◌∙◌, subst, ⊎_elim, zero-add, arith}
 use lib.ListN.{length-map}
 use Rattle.std.proofs.lemmas.List.{get_or-take, length-take-le, get_or_past}
 use Rattle.std.proofs.lemmas.List.FromFn.{get_or-map-range_with_len, length-map-range_with_len}
-use Rattle.std.proofs.lemmas.Bool.{cases_Bool, cases_lt, cases_eq, eqb-true, eq-eqb, cond-true, cond-false, true≢false, false≢true}
+use Rattle.std.proofs.lemmas.Bool.{cases_lt, cases_eq, eqb-true, eq-eqb, true≢false, false≢true}
 use Rattle.algebra.specs.Meaning.{Arithmetic, Meaning}
-use Rattle.algebra.specs.Laws.{Laws}
-use Rattle.algebra.specs.Places.{Member, member, failures, failing}
-use Rattle.algebra.specs.Polynomial.{evaluate, annihilator, act}
+use Rattle.algebra.specs.Places.{Member, failures, failing}
+use Rattle.algebra.specs.Polynomial.{annihilator, act}
 use Rattle.algebra.specs.Theorems.{noted_sum, DistinctPlaces}
-use Rattle.algebra.specs.ErrorLocators.{agrees, errors, Received, modified_sum, FitsModified}
-use Rattle.algebra.specs.Realisation.{Degree, Fits, Minimal, applied}
+use Rattle.algebra.specs.ErrorLocators.{agrees, errors, modified_sum, FitsModified}
+use Rattle.algebra.specs.Realisation.{Degree, Fits, Minimal}
 use Rattle.algebra.proofs.Carrier.{lawful}
-use Rattle.algebra.proofs.Counts.{failing_only, failing_if, distinct_failing, length_failing, failures_two}
+use Rattle.algebra.proofs.Counts.{failing_only, distinct_failing, length_failing, failures_two}
 use Rattle.algebra.proofs.Lengths.{length_annihilator, annihilator_elements, act_element}
 use Rattle.algebra.proofs.Numbers.{annihilator_monic}
 use Rattle.algebra.proofs.Decoding.{error_locator, error_roots, few_roots}
@@ -21,8 +20,7 @@ use Rattle.algebra.proofs.Realisations.{InField, in_field, act_applied, applied_
 use Rattle.codes.specs.Code.{Code}
 use Rattle.codes.specs.Cards.{Checked}
 use Rattle.codes.specs.Cells.{blank_cell, blanks}
-use Rattle.codes.specs.Codeword.{Codeword}
-use Rattle.filling.specs.Fillings.{number_at, blank_places, Agrees, IfNoted, filled, FillsOnly}
+use Rattle.filling.specs.Fillings.{number_at, blank_places, Agrees, IfNoted, filled}
 use Rattle.codes.specs.Sums.{syndromes}
 use Rattle.codes.specs.Verdicts.{Lettered}
 use Rattle.codes.specs.declared.cell.Cell.{Cell}

@@ -1,24 +1,24 @@
 -- A codeword and the cells that it was noted in: errors and erasures by places, and that at most one codeword is near.
 -- Assumes nothing.
-use Rattle.std.proofs.Common.{◌≡◌, ℕ, zero, suc, ◌+◌, ◌*◌, ◌<◌, ◌≤◌, Bool, true, false, cond, eqb, ◌⊎◌, List, [], ◌∷◌, length, get_or, is_some, Some, None, Option, unwrap_or, sym, refl, ap, ◌∙◌, subst, ap₂, inl, inr, ⊎_elim, arith}
+use Rattle.std.proofs.Common.{◌≡◌, ℕ, zero, suc, ◌+◌, ◌<◌, ◌≤◌, Bool, true, false, cond, eqb, List, [], ◌∷◌, length, get_or, is_some, Some, None, Option, unwrap_or, sym, refl, ap, ◌∙◌, subst, ap₂, arith}
 use Rattle.std.proofs.lemmas.List.{ext_get_or}
-use Rattle.std.proofs.lemmas.Bool.{cases_Bool, true≢false}
-use Rattle.algebra.specs.Meaning.{Arithmetic, Meaning}
-use Rattle.algebra.specs.Places.{Member, member, failures}
+use Rattle.std.proofs.lemmas.Bool.{true≢false}
+use Rattle.algebra.specs.Meaning.{Meaning}
+use Rattle.algebra.specs.Places.{member, failures}
 use Rattle.algebra.specs.Theorems.{Elements, Locators, Multipliers, DistinctPlaces}
-use Rattle.algebra.specs.ErrorLocators.{agrees, errors, Received}
+use Rattle.algebra.specs.ErrorLocators.{errors, Received}
 use Rattle.algebra.proofs.Places.{member_if, member_not}
 use Rattle.algebra.proofs.Counts.{failing_only, failing_if, distinct_failing}
 use Rattle.algebra.proofs.Decoding.{only_near}
 use Rattle.codes.specs.Code.{Code}
 use Rattle.codes.specs.Cards.{Checked}
-use Rattle.codes.specs.Cells.{blank_cell, blanks}
+use Rattle.codes.specs.Cells.{blank_cell}
 use Rattle.codes.specs.Codeword.{Codeword}
 use Rattle.filling.specs.Fillings.{number_at, blank_places}
 use Rattle.codes.specs.Verdicts.{BelowIfNoted, Lettered}
 use Rattle.codes.specs.declared.cell.Cell.{Cell}
 use Rattle.filling.proofs.Blanks.{failures_front, length_blank_places}
-use Rattle.reading.specs.Reading.{wrong, one_if_wrong, Near, reach}
+use Rattle.reading.specs.Reading.{wrong, one_if_wrong, Near}
 
 -- the noted letter, or 0
 abbrev pub letter_or_zero : List Cell → ℕ → ℕ

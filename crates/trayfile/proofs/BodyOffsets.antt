@@ -1,11 +1,9 @@
 -- A bad number of a body begins within the body. Assumes nothing.
 use Rattle.std.proofs.Common.{◌≡◌, ℕ, ◌+◌, ◌≤◌, List, length, sym, ap, ◌∙◌, ⊎_elim, arith}
 use Rattle.std.proofs.lemmas.List.{length-append}
-use Rattle.numbers.specs.NumberReading.{NoNumber}
-use Rattle.bodies.specs.NumberLists.{numbers, after, Begins, Stops}
+use Rattle.bodies.specs.NumberLists.{numbers, after, Begins}
 use Rattle.bodies.specs.CardHeads.{head_numbers}
-use Rattle.faults.specs.declared.layer.BodyFault.{BodyFault}
-use Rattle.faults.specs.declared.layer.BodyFault.TheVariants.{BadNumber, BadBody, BadNote, Field, Card, Tag}
+use Rattle.faults.specs.declared.layer.BodyFault.TheVariants.{BadNumber}
 use Rattle.trayfile.specs.Records.{BodyRefused}
 use Rattle.trayfile.specs.declared.turn.Task.{Task}
 use Rattle.trayfile.specs.declared.turn.Task.TheVariants as task

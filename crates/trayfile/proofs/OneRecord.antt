@@ -1,5 +1,5 @@
 -- A record that stands first, in its turn, is the only answer. Assumes nothing.
-use Rattle.std.proofs.Common.{◌≡◌, ℕ, ◌+◌, ◌<◌, ◌≤◌, ◌⊎◌, List, [], ◌∷◌, ◌++◌, length, take, drop, Some, None, Ok, Err, Option, Result, sym, refl, ap, ◌∙◌, subst, ap₂, inl, inr, ⊎_elim, arith, lit≤}
+use Rattle.std.proofs.Common.{◌≡◌, ℕ, ◌+◌, ◌<◌, ◌≤◌, List, ◌++◌, length, take, drop, Some, None, Ok, Err, Option, sym, refl, ap, ◌∙◌, subst, ap₂, ⊎_elim, arith, lit≤}
 use Rattle.std.proofs.lemmas.List.{append_assoc, length-append, drop_at, take_at}
 use Rattle.numbers.specs.Numbers.{largest_number, number_bytes}
 use Rattle.numbers.specs.NumberReading.{StandsFirst, NumberRefused}
@@ -11,15 +11,13 @@ use Rattle.bodies.proofs.OneCard.{card_never}
 use Rattle.bodies.proofs.SameCells.{cells_never}
 use Rattle.trayfile.specs.Kinds.{kind_number}
 use Rattle.trayfile.specs.Turns.{task_for}
-use Rattle.trayfile.specs.Entries.{Entry, entry, entry_of, entry_bytes, record_bytes}
-use Rattle.trayfile.specs.Headers.{after_number, NoKind, StrangeKind, NotInTurn, NoLength, NoBody, HeaderRefused}
+use Rattle.trayfile.specs.Entries.{Entry, entry, entry_of, entry_bytes}
+use Rattle.trayfile.specs.Headers.{after_number, NoKind, StrangeKind, NotInTurn, NoLength, NoBody}
 use Rattle.trayfile.specs.Records.{Done, BodyRefused, Follows, EntryFirst, BodyWrong, RecordRefused}
-use Rattle.trayfile.specs.Readers.{left_of, Next, ComesBack, RecordReadsBack}
+use Rattle.trayfile.specs.Readers.{left_of, RecordReadsBack}
 use Rattle.trayfile.specs.declared.fault.Fault.{Fault}
 use Rattle.trayfile.specs.declared.kind.Kind.{Kind}
 use Rattle.trayfile.specs.declared.kind.Kind.TheVariants as kinds
-use Rattle.trayfile.specs.declared.record.Record.{Record}
-use Rattle.trayfile.specs.declared.reader.TrayReader.{TrayReader}
 use Rattle.trayfile.specs.declared.turn.Turn.{Turn}
 use Rattle.trayfile.specs.declared.turn.Task.{Task}
 use Rattle.trayfile.specs.declared.turn.Task.TheVariants.{Card, Cells, Note}

@@ -1,5 +1,5 @@
 -- A record's bytes, from its header and its body. Assumes nothing.
-use Rattle.std.proofs.Common.{◌≡◌, ℕ, ◌+◌, ◌-◌, ◌<◌, ◌≤◌, List, [], ◌∷◌, ◌++◌, length, take, drop, Some, None, Option, sym, refl, ap, ◌∙◌, subst, arith}
+use Rattle.std.proofs.Common.{◌≡◌, ℕ, ◌+◌, ◌-◌, ◌≤◌, List, ◌++◌, length, take, drop, sym, refl, ap, ◌∙◌, subst, arith}
 use Rattle.std.specs.List.{between}
 use Rattle.std.proofs.lemmas.List.{append_assoc, length-append, length-drop, drop-drop, drop_at, take-append-drop, length-take-le}
 use Rattle.numbers.specs.Numbers.{largest_number, number_bytes}
@@ -7,12 +7,11 @@ use Rattle.numbers.specs.NumberReading.{StandsFirst}
 use Rattle.faults.specs.declared.layer.BodyFault.{BodyFault}
 use Rattle.trayfile.specs.Faults.{body_fault}
 use Rattle.trayfile.specs.Kinds.{kind_number}
-use Rattle.trayfile.specs.Entries.{Entry, entry, entry_bytes, record_bytes}
+use Rattle.trayfile.specs.Entries.{entry, record_bytes}
 use Rattle.trayfile.specs.Headers.{after_number, HeaderIn}
-use Rattle.trayfile.specs.Records.{BodyRefused, Done, EntryFirst, BodyWrong, RecordIn, StepIn}
+use Rattle.trayfile.specs.Records.{BodyRefused, Done, EntryFirst, BodyWrong, StepIn}
 use Rattle.trayfile.specs.declared.fault.Fault.{Fault}
 use Rattle.trayfile.specs.declared.header.Header.{Header}
-use Rattle.trayfile.specs.declared.kind.Kind.{Kind}
 use Rattle.trayfile.specs.declared.turn.Turn.{Turn}
 use Rattle.trayfile.proofs.HeaderPlaces.{number_ends}
 

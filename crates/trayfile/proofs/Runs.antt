@@ -1,12 +1,12 @@
 -- All answers of a reader over a whole file. Assumes nothing.
-use Rattle.std.proofs.Common.{◌≡◌, ℕ, ◌+◌, ◌<◌, ◌≤◌, ltb, ◌⊎◌, List, [], ◌∷◌, map, length, drop, Some, None, Option, sym, refl, ap, ◌∙◌, subst, inl, inr, ⊎_elim, arith}
+use Rattle.std.proofs.Common.{◌≡◌, ℕ, ◌+◌, ltb, List, [], ◌∷◌, map, length, drop, Some, None, Option, sym, refl, ap, ◌∙◌, subst, inl, inr, ⊎_elim, arith}
 use Rattle.std.proofs.lemmas.List.{drop-drop}
 use Rattle.std.proofs.lemmas.Bool.{cases_lt, lt-ltb, le-ltb, cond-true, cond-false}
 use Rattle.faults.specs.declared.layer.FileCause.TheVariants.{LongFile}
 use Rattle.trayfile.specs.Faults.{fault_at}
-use Rattle.trayfile.specs.Entries.{Entry, entry_of, entry_bytes}
-use Rattle.trayfile.specs.Files.{longest_file, FileFrom, File}
-use Rattle.trayfile.specs.Readers.{Opened, left_of, AtFault, Run, EveryRun}
+use Rattle.trayfile.specs.Entries.{entry_of, entry_bytes}
+use Rattle.trayfile.specs.Files.{longest_file, FileFrom}
+use Rattle.trayfile.specs.Readers.{left_of, Run, EveryRun}
 use Rattle.trayfile.specs.declared.fault.Fault.{Fault}
 use Rattle.trayfile.specs.declared.record.Record.{Record}
 use Rattle.trayfile.specs.declared.reader.TrayReader.{TrayReader}

@@ -3,7 +3,6 @@ use Rattle.std.specs.Prelude.{ℕ, ◌+◌, ◌^◌, ◌<◌}
 use Rattle.faults.specs.Layers.{layer_number}
 use Rattle.faults.specs.declared.layer.BodyFault.{BodyFault}
 use Rattle.faults.specs.declared.layer.BodyFault.TheVariants as body
-use Rattle.faults.specs.declared.layer.Layer.{Layer}
 use Rattle.faults.specs.declared.layer.Layer.TheVariants.{Field, Card, Tag, File}
 use Rattle.faults.specs.declared.layer.FileCause.{FileCause}
 use Rattle.faults.specs.declared.layer.FileCause.TheVariants.{CutOff, BadNumber, BadBody, BadNote}

@@ -1,5 +1,5 @@
 -- A record's kind and length. Assumes nothing.
-use Rattle.std.specs.Prelude.{◌≡◌, ℕ, ◌+◌, ◌<◌, ◌≤◌, ◌⊎◌, List, ◌++◌, length, drop, Some, None, Ok, Err, Option, Result}
+use Rattle.std.specs.Prelude.{◌≡◌, ℕ, ◌+◌, ◌<◌, ◌≤◌, ◌⊎◌, List, length, drop, Some, None, Ok, Err, Result}
 use Rattle.numbers.specs.Numbers.{number_bytes}
 use Rattle.numbers.specs.NumberReading.{StandsFirst, NumberRefused}
 use Rattle.numbers.specs.declared.number_cause.NumberCause.{NumberCause}

@@ -1,5 +1,5 @@
 -- The reader's answers. Assumes nothing.
-use Rattle.std.specs.Prelude.{◌≡◌, ℕ, ◌+◌, ◌<◌, ◌≤◌, cond, ◌⊎◌, List, [], ◌∷◌, map, length, drop, Some, None, Ok, Err, Option, Result, nat_lt}
+use Rattle.std.specs.Prelude.{◌≡◌, ℕ, ◌+◌, ◌<◌, cond, ◌⊎◌, List, [], ◌∷◌, map, length, drop, Some, None, Ok, Err, Option, Result, nat_lt}
 use Rattle.faults.specs.declared.layer.FileCause.TheVariants.{LongFile}
 use Rattle.trayfile.specs.Faults.{fault_at}
 use Rattle.trayfile.specs.Entries.{Entry, entry_of, entry_bytes}

@@ -1,6 +1,5 @@
 -- A record in its turn. Assumes nothing.
-use Rattle.std.specs.Prelude.{◌≡◌, ℕ, ◌+◌, ◌<◌, ◌≤◌, ◌⊎◌, List, ◌++◌, length, drop, Some, None, Ok, Err, Option, Result}
-use Rattle.std.proofs.Common.{inl}
+use Rattle.std.specs.Prelude.{◌≡◌, ℕ, ◌+◌, ◌≤◌, ◌⊎◌, List, ◌++◌, length, drop, Some, Ok, Err, Result}
 use Rattle.std.specs.List.{between}
 use Rattle.codes.specs.declared.cell.Cell.{Cell}
 use Rattle.numbers.specs.Numbers.{largest_number, number_bytes}
@@ -15,12 +14,11 @@ use Rattle.faults.specs.declared.layer.BodyFault.TheVariants.{BadNote}
 use Rattle.trayfile.specs.Faults.{body_fault}
 use Rattle.trayfile.specs.Kinds.{kind_number}
 use Rattle.trayfile.specs.Turns.{task_for}
-use Rattle.trayfile.specs.Entries.{Entry, entry, entry_of, entry_bytes}
+use Rattle.trayfile.specs.Entries.{Entry, entry, entry_bytes}
 use Rattle.trayfile.specs.Headers.{HeaderRefused}
 use Rattle.trayfile.specs.declared.fault.Fault.{Fault}
-use Rattle.trayfile.specs.declared.kind.Kind.{Kind}
 use Rattle.trayfile.specs.declared.turn.Turn.{Turn}
-use Rattle.trayfile.specs.declared.turn.Turn.TheVariants.{Start, InTurn, AfterNote}
+use Rattle.trayfile.specs.declared.turn.Turn.TheVariants.{InTurn, AfterNote}
 use Rattle.trayfile.specs.declared.turn.Task.{Task}
 use Rattle.trayfile.specs.declared.turn.Task.TheVariants.{Card, Cells, Note}
 use Rattle.trayfile.specs.declared.record_reading.Step.{Step}

@@ -1,19 +1,17 @@
 -- The reader keeps the shape of the last card, so what it passes is not refused under that card. Assumes nothing.
-use Rattle.std.proofs.Common.{◌≡◌, ℕ, List, length, replicate, Some, None, Ok, Err, Result, sym, refl, ap, ◌∙◌, subst, subst₂, arith}
+use Rattle.std.proofs.Common.{◌≡◌, ℕ, List, length, replicate, Some, Ok, Err, Result, sym, refl, ap, ◌∙◌, subst, subst₂, arith}
 use mathlib.Core.Logic.{∥∥₁_elim}
 use lib.ListN.{length-replicate}
 use Rattle.codes.specs.Code.{Code}
 use Rattle.codes.specs.Cells.{blank_cell}
 use Rattle.codes.specs.declared.cell.Cell.{Cell}
 use Rattle.faults.specs.declared.layer.BodyFault.{BodyFault}
-use Rattle.bodies.specs.CardBodies.{CardIn}
 use Rattle.bodies.specs.CardShapes.{tray_code, ShapeOf}
 use Rattle.bodies.specs.CellBodies.{CellsIn, CellsRefused}
 use Rattle.bodies.specs.SameCards.{SameCard}
 use Rattle.bodies.specs.declared.card_body.TrayCard.{TrayCard}
 use Rattle.bodies.specs.declared.card_body.TrayCard.TheVariants.{Prime, Binary}
 use Rattle.bodies.specs.declared.card_shape.CardShape.{CardShape}
-use Rattle.bodies.specs.declared.cells_refusal.CellsRefusal.{CellsRefusal}
 use Rattle.bodies.specs.declared.cells_refusal.CellsRefusal.TheVariants as cells-refusal
 use Rattle.bodies.proofs.OneCard.{card_never, card_reads_back}
 use Rattle.bodies.proofs.SameCells.{cells_read_back}
@@ -29,7 +27,7 @@ use Rattle.trayfile.specs.declared.turn.Turn.{Turn}
 use Rattle.trayfile.specs.declared.turn.Turn.TheVariants.{Start, InTurn, AfterNote}
 use Rattle.trayfile.specs.declared.turn.Task.{Task}
 use Rattle.trayfile.specs.declared.turn.Task.TheVariants as task
-use Rattle.traylines.specs.LastCards.{ShapedCard, LastCard, Passed}
+use Rattle.traylines.specs.LastCards.{LastCard, Passed}
 use Rattle.traylines.specs.FileLines.{IsUnread}
 use Rattle.traylines.specs.WordUnder.{UnderFound, TrayWord, Under}
 use Rattle.traylines.specs.declared.card_word.UnderRefusal.{UnderRefusal}

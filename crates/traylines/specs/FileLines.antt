@@ -2,7 +2,6 @@
 use Rattle.std.specs.Prelude.{◌≡◌, ℕ, ◌+◌, ◌-◌, ◌^◌, min, Bool, true, false, List, [], Some, None, Ok, Err, Option, Result}
 use Rattle.reading.specs.Reading.{read_number}
 use Rattle.reading.specs.declared.read_answer.ReadRefusal.{ReadRefusal}
-use Rattle.faults.specs.declared.layer.BodyFault.{BodyFault}
 use Rattle.trayfile.specs.Readers.{Opened, Next}
 use Rattle.trayfile.specs.declared.fault.Fault.{Fault}
 use Rattle.trayfile.specs.declared.record.Record.{Record}

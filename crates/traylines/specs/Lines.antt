@@ -1,5 +1,5 @@
 -- The bytes of each line. Assumes nothing.
-use Rattle.std.specs.Prelude.{ℕ, List, [], ◌∷◌, ◌++◌, codes, decimal}
+use Rattle.std.specs.Prelude.{ℕ, List, ◌++◌, codes, decimal}
 use Rattle.faults.specs.declared.layer.Layer.{Layer}
 use Rattle.faults.specs.declared.layer.Layer.TheVariants.{Field, Card, Tag, File}
 use Rattle.trayfile.specs.Faults.{fault_number}

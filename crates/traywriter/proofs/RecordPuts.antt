@@ -1,5 +1,5 @@
 -- A record's bytes put into a buffer. Assumes nothing.
-use Rattle.std.proofs.Common.{◌≡◌, ℕ, ◌+◌, ◌<◌, ◌≤◌, List, [], ◌∷◌, ◌++◌, length, take, drop, sym, refl, ap, ◌∙◌, subst, ap₂, zero-add, arith, lit≤}
+use Rattle.std.proofs.Common.{◌≡◌, ℕ, ◌+◌, ◌≤◌, List, ◌++◌, length, sym, ap, ◌∙◌, zero-add, arith, lit≤}
 use Rattle.std.proofs.lemmas.List.{append_assoc, length-append}
 use Rattle.numbers.specs.Numbers.{largest_number, number_bytes}
 use Rattle.trayfile.specs.Kinds.{kind_number}
@@ -7,7 +7,7 @@ use Rattle.trayfile.specs.declared.kind.Kind.{Kind}
 use Rattle.trayfile.specs.declared.kind.Kind.TheVariants.{Card, Cells, Note}
 use Rattle.numbers.specs.NumberWriting.{put_at}
 use Rattle.trayfile.specs.Entries.{record_bytes}
-use Rattle.traywriter.specs.Writing.{record_header, Put, NoRoom}
+use Rattle.traywriter.specs.Writing.{record_header, Put}
 use Rattle.traywriter.proofs.Puts.{put_front, put_next}
 
 header_body : (kind size : ℕ) (body : List ℕ) → size ≡ length body → record_header kind size ++ body ≡ record_bytes kind body

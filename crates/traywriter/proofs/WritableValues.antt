@@ -1,11 +1,10 @@
 -- Values that can be written as numbers. Assumes nothing.
-use Rattle.std.proofs.Common.{◌≡◌, ℕ, suc, ◌+◌, ◌-◌, ◌<◌, ◌≤◌, List, [], ◌∷◌, ◌++◌, map, length, get_or, take, drop, Some, None, Ok, Err, Option, Result, sym, refl, ap, ◌∙◌, subst, ap₂, arith}
+use Rattle.std.proofs.Common.{◌≡◌, ℕ, suc, ◌<◌, ◌≤◌, List, [], ◌∷◌, ◌++◌, map, length, get_or, Some, None, Ok, Err, Option, Result, sym, ap, ◌∙◌, subst, ap₂, arith}
 use Rattle.std.proofs.lemmas.List.{append-nil}
 use Rattle.algebra.specs.Limits.{largest_cells, largest_size}
 use Rattle.algebra.specs.Meaning.{Meaning}
 use Rattle.codes.specs.Code.{Code}
 use Rattle.codes.specs.Cards.{Checked}
-use Rattle.codes.specs.Cells.{blank_cell}
 use Rattle.codes.specs.Verdicts.{Lettered, BelowIfNoted}
 use Rattle.codes.specs.declared.cell.Cell.{Cell}
 use Rattle.numbers.specs.Numbers.{largest_number}

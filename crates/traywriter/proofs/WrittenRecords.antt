@@ -1,7 +1,6 @@
 -- Written records stand in their turn, so they read back. Assumes nothing.
-use Rattle.std.proofs.Common.{◌≡◌, ℕ, ◌+◌, ◌*◌, ◌<◌, ◌≤◌, ◌⊎◌, List, [], ◌∷◌, ◌++◌, map, length, drop, IfOk, Some, None, Ok, Err, Option, Result, sym, refl, ap, ◌∙◌, subst, inl, inr, ⊎_elim, arith}
+use Rattle.std.proofs.Common.{◌≡◌, ℕ, ◌*◌, ◌≤◌, List, [], ◌∷◌, ◌++◌, map, length, IfOk, Some, None, Ok, Err, Option, Result, sym, refl, ap, subst, ⊎_elim, arith}
 use Rattle.std.proofs.lemmas.List.{length-append, length-map}
-use Rattle.algebra.specs.Limits.{largest_cells, largest_size}
 use Rattle.algebra.specs.Meaning.{Meaning}
 use Rattle.fields.specs.Prime.{prime_meaning}
 use Rattle.fields.specs.Binary.{binary_meaning}
@@ -12,7 +11,7 @@ use Rattle.codes.specs.declared.cell.Cell.{Cell}
 use Rattle.numbers.specs.Numbers.{largest_number, number_bytes}
 use Rattle.bodies.specs.NumberLists.{numbers}
 use Rattle.bodies.specs.CardBodies.{card_body, CardIn}
-use Rattle.bodies.specs.CardShapes.{tray_code, ShapeOf}
+use Rattle.bodies.specs.CardShapes.{ShapeOf}
 use Rattle.bodies.specs.CellBodies.{cell_number, cells_body, CellsIn}
 use Rattle.bodies.specs.Notes.{PlainNote}
 use Rattle.bodies.specs.declared.card_body.TrayCard.{TrayCard}
@@ -21,13 +20,11 @@ use Rattle.bodies.specs.declared.card_shape.CardShape.{CardShape}
 use Rattle.bodies.proofs.OneCard.{card_reads_back}
 use Rattle.bodies.proofs.SameCells.{cells_read_back}
 use Rattle.trayfile.specs.Entries.{Entry, entry, entry_bytes}
-use Rattle.trayfile.specs.Records.{Done, Follows, EntryFirst}
+use Rattle.trayfile.specs.Records.{Done, Follows}
 use Rattle.trayfile.specs.declared.kind.Kind.{Kind}
 use Rattle.trayfile.specs.Turns.{task_for}
-use Rattle.trayfile.specs.Readers.{left_of, Next, ComesBack}
-use Rattle.trayfile.specs.declared.fault.Fault.{Fault}
+use Rattle.trayfile.specs.Readers.{left_of}
 use Rattle.trayfile.specs.declared.kind.Kind.TheVariants as kinds
-use Rattle.trayfile.specs.declared.record.Record.{Record}
 use Rattle.trayfile.specs.declared.reader.TrayReader.{TrayReader}
 use Rattle.trayfile.specs.declared.turn.Turn.{Turn}
 use Rattle.trayfile.specs.declared.turn.Turn.TheVariants.{Start, InTurn, AfterNote}

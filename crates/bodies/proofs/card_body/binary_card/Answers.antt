@@ -1,4 +1,4 @@
-use Rattle.std.proofs.Common.{inl, inr}
+use Rattle.std.proofs.Common.{inr}
 use Rattle.bodies.proofs.card_body.binary_card.Goals as goal
 
 pub returns-in-Err-card_over : goal.returns-in-Err-card_over

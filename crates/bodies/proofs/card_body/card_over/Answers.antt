@@ -1,7 +1,7 @@
-use Rattle.std.proofs.Common.{◌≡◌, ◌-◌, take, sym, refl, ap, ◌∙◌, subst, arith}
+use Rattle.std.proofs.Common.{◌≡◌, ◌-◌, take, sym, refl, ap, ◌∙◌, arith}
 use mathlib.Core.Path.{subst⁻¹}
 use Rattle.std.proofs.lemmas.Result.{err_from_is_err_and}
-use Rattle.codes.specs.Code.{Code, code_of}
+use Rattle.codes.specs.Code.{Code}
 use Rattle.codes.specs.Cards.{Checked}
 use Rattle.bodies.specs.CardHeads.{HeadFits}
 use Rattle.bodies.specs.CardBodies.{card_body}

@@ -1,4 +1,4 @@
-use Rattle.std.proofs.Common.{◌≡◌, ◌++◌, length, take, drop}
+use Rattle.std.proofs.Common.{◌≡◌, take}
 use Rattle.bodies.specs.CellBodies.{cells_of}
 use Rattle.bodies.proofs.cells_body.write_cells.Given as goal
 

@@ -1,4 +1,4 @@
-use Rattle.std.proofs.Common.{◌≡◌, ℕ, suc, ◌<◌, ◌≢◌, length, get_or, sym, refl, ap, ◌∙◌, ap₂, le_refl, add-one, arith, get_or-set_other, get_or-set_same, below_more}
+use Rattle.std.proofs.Common.{◌<◌, ◌≢◌, length, sym, ap, ◌∙◌, ap₂, le_refl, add-one, arith, get_or-set_other, get_or-set_same, below_more}
 use Rattle.algebra.specs.Power.{times_power}
 use Rattle.codes.proofs.syndromes.add_powers.Goals as goal
 

@@ -1,6 +1,6 @@
-use Rattle.std.proofs.Common.{◌≡◌, ℕ, ◌+◌, true, false, not, get_or, drop, is_some, Some, None, Option, sym, refl, ap, ◌∙◌, arith}
+use Rattle.std.proofs.Common.{◌≡◌, ℕ, ◌+◌, true, false, get_or, drop, is_some, Some, None, Option, sym, refl, arith}
 use Rattle.std.proofs.lemmas.List.{at_drop_more, at_drop_all}
-use Rattle.std.proofs.lemmas.Bool.{both_ways, true≢false}
+use Rattle.std.proofs.lemmas.Bool.{true≢false}
 use Rattle.codes.specs.Cells.{blanks, one_if_blank, blank_cell}
 use Rattle.codes.proofs.verdict.count_blanks.Goals as goal
 use Rattle.codes.proofs.verdict.count_blanks.Goals.{then-is_none, else-is_none}

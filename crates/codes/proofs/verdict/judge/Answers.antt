@@ -1,4 +1,4 @@
-use Rattle.std.proofs.Common.{◌≡◌, ℕ, ◌<◌, List, length, get_or, sym, refl, ap, ◌∙◌, subst, arith}
+use Rattle.std.proofs.Common.{◌≡◌, ℕ, List, length, sym, refl, ap, ◌∙◌, subst, arith}
 use Rattle.algebra.specs.Meaning.{Arithmetic}
 use Rattle.codes.specs.Code.{Code, code_of}
 use Rattle.codes.specs.Sums.{syndromes}

@@ -1,7 +1,6 @@
 use Rattle.std.proofs.Common.{sym, ap, ◌∙◌}
 use mathlib.Core.Path.{subst⁻¹}
 use Rattle.house.specs.HouseCards.{PrimeRow, BinaryRow}
-use Rattle.house.specs.HouseRows.{house_row}
 use Rattle.house.specs.declared.house_rows.HouseRow.{HouseRow}
 use Rattle.house.proofs.HouseRows.{house_row_kinds}
 use Rattle.house.proofs.house_cards.house_card.Goals as goal

@@ -1,4 +1,4 @@
-use Rattle.std.proofs.Common.{sym, ◌∙◌, inl, inr, arith}
+use Rattle.std.proofs.Common.{inl, inr}
 use Rattle.std.proofs.lemmas.Result.{err_from_is_err_and}
 use Rattle.trayfile.proofs.HeaderPlaces.{number_ends, no_length, no_body, header_in}
 use Rattle.trayfile.proofs.header.read_header.Goals as goal

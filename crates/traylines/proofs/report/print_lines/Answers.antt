@@ -1,4 +1,4 @@
-use Rattle.std.proofs.Common.{sym, ◌∙◌}
+use Rattle.std.proofs.Common.{sym}
 use Rattle.traylines.proofs.Advances.{fewer_stepped}
 use Rattle.traylines.proofs.report.print_lines.Goals as goal
 

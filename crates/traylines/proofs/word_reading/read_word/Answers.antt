@@ -1,4 +1,4 @@
-use Rattle.std.proofs.Common.{◌≡◌, ℕ, ◌-◌, List, Ok, sym, ◌∙◌, subst, arith, rules}
+use Rattle.std.proofs.Common.{ℕ, ◌-◌, List, Ok, sym, ◌∙◌, subst, arith, rules}
 use borrow.Rule.Slice.PartMut.{same_len_mid}
 use Rattle.algebra.specs.Limits.{largest_cells}
 use Rattle.std.proofs.lemmas.List.{take_at, length-replicate}

@@ -1,4 +1,4 @@
-use Rattle.std.proofs.Common.{◌≡◌, sym, ap, ◌∙◌, subst, arith, rules}
+use Rattle.std.proofs.Common.{sym, ap, ◌∙◌, subst, arith, rules}
 use Rattle.fields.specs.Prime.{prime_meaning}
 use Rattle.fields.specs.Binary.{binary_meaning}
 use Rattle.fields.specs.declared.prime_field.PrimeField.{PrimeField}

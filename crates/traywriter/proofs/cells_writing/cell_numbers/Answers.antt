@@ -1,7 +1,5 @@
-use Rattle.std.proofs.Common.{◌≡◌, ℕ, ◌<◌, List, [], ◌∷◌, ◌++◌, map, length, take, sym, refl, ap, ◌∙◌, ap₂, arith, length-set}
+use Rattle.std.proofs.Common.{◌≡◌, ℕ, List, [], ◌∷◌, ◌++◌, map, length, take, sym, ap, ◌∙◌, ap₂, arith, length-set}
 use Rattle.std.proofs.lemmas.List.{take_all, take_more_set, map_more}
-use Rattle.codes.specs.Cells.{blank_cell}
-use Rattle.codes.specs.declared.cell.Cell.{Cell}
 use Rattle.bodies.specs.CellBodies.{cell_number}
 use Rattle.traywriter.proofs.cells_writing.cell_numbers.Goals as goal
 

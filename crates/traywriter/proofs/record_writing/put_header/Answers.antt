@@ -1,4 +1,4 @@
-use Rattle.std.proofs.Common.{◌≡◌, ℕ, ◌+◌, List, ◌++◌, length, sym, refl, ap, ◌∙◌, arith}
+use Rattle.std.proofs.Common.{◌++◌, length, ap, ◌∙◌, arith}
 use Rattle.numbers.specs.Numbers.{number_bytes}
 use Rattle.numbers.specs.NumberWriting.{put_at}
 use Rattle.trayfile.specs.Kinds.{kind_number}

@@ -1,4 +1,4 @@
-use Rattle.std.proofs.Common.{◌≡◌, ◌+◌, length, sym, ap, ◌∙◌, arith}
+use Rattle.std.proofs.Common.{length, ap, arith}
 use Rattle.numbers.specs.Numbers.{number_bytes}
 use Rattle.trayfile.specs.Kinds.{kind_number}
 use Rattle.traywriter.proofs.Puts.{three_at_most}

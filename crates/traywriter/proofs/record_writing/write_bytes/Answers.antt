@@ -1,4 +1,4 @@
-use Rattle.std.proofs.Common.{◌≡◌, ◌+◌, length, sym, refl, ap, ◌∙◌, zero-add, arith}
+use Rattle.std.proofs.Common.{length, sym, refl, ◌∙◌, zero-add, arith}
 use Rattle.trayfile.specs.Kinds.{kind_number}
 use Rattle.traywriter.specs.Writing.{record_header}
 use Rattle.traywriter.proofs.Puts.{put_next}

@@ -1,4 +1,4 @@
-use Rattle.std.proofs.Common.{◌≡◌, ◌≤◌, length, get_or, take, ◌∙◌, arith}
+use Rattle.std.proofs.Common.{◌≤◌, length, take, ◌∙◌, arith}
 use Rattle.std.proofs.lemmas.List.{ext_get_or, length-take-le, get_or-take}
 use Rattle.codes.proofs.card.check.stored.Goals as goal
 

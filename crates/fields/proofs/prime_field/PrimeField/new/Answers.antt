@@ -1,6 +1,6 @@
 use Rattle.std.proofs.Common.{refl, zero-le, sym, ◌∙◌}
 use Rattle.std.proofs.lemmas.Bool.{false≢true, eqb-true, eq-eqb}
-use Rattle.fields.specs.Modulo.{listed_primes, Listed}
+use Rattle.fields.specs.Modulo.{listed_primes}
 use Rattle.fields.specs.ListedPrimes.{listed_prime, stands_from_has, has_from_stands}
 use Rattle.fields.proofs.prime_field.PrimeField.new.Goals as goal
 

@@ -1,4 +1,4 @@
-use Rattle.std.proofs.Common.{◌≡◌, ℕ, ◌+◌, ◌*◌, ◌/◌, ◌%◌, ◌<◌, ◌≤◌, sym, refl, ap, ◌∙◌, subst, mod-lt, one-mul, div-add-mod', zero-mul, arith}
+use Rattle.std.proofs.Common.{ℕ, ◌/◌, ◌%◌, ◌<◌, sym, ap, ◌∙◌, subst, mod-lt, one-mul, div-add-mod', zero-mul, arith}
 use native.Mathlib.Nat.{mod_self, zero-mod}
 use Rattle.fields.proofs.Euclid.{Common, common_step, euclid_step, last_is_one, last_inverts}
 use Rattle.fields.proofs.prime_field.euclid.inverse.Goals as goal

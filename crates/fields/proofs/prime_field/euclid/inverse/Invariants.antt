@@ -1,4 +1,4 @@
-use Rattle.std.proofs.Common.{◌≡◌, ℕ, ◌*◌, ◌%◌, ◌<◌, ◌≤◌}
+use Rattle.std.proofs.Common.{◌≡◌, ◌*◌, ◌%◌, ◌<◌, ◌≤◌}
 use Rattle.fields.proofs.Euclid.{Common}
 use Rattle.fields.proofs.prime_field.euclid.inverse.Given as goal
 

@@ -23,8 +23,8 @@ invariant_of-self g c =
     record {
       long = same_len_mid 0 (c.width-width.result - 0) cells after c.read_line.auto.cells ∙ tag.long;
       lettered =
-        subst (λ (own-cells : List Cell). ∥ Lettered card.letters own-cells ∥₁) (sym (take_at after _ card.cells own.after_long))
-            (lettered_line card.letters marks (take card.cells cells) after c.read_line.result own.read tag.lettered);
+          subst (λ (own-cells : List Cell). ∥ Lettered card.letters own-cells ∥₁) (sym (take_at after _ card.cells own.after_long))
+          (lettered_line card.letters marks (take card.cells cells) after c.read_line.result own.read tag.lettered);
     }
 
 pub returns : goal.returns

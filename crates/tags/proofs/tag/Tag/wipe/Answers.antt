@@ -1,4 +1,4 @@
-use Rattle.std.proofs.Common.{◌≡◌, ◌-◌, ◌<◌, ◌≤◌, List, length, take, set, sym, refl, ap, ◌∙◌, subst, arith, length-set}
+use Rattle.std.proofs.Common.{◌-◌, ◌≤◌, List, length, take, set, sym, refl, ap, ◌∙◌, subst, arith, length-set}
 use Rattle.codes.specs.Cells.{blank_cell}
 use Rattle.codes.specs.Verdicts.{Lettered}
 use Rattle.codes.specs.declared.cell.Cell.{Cell}
@@ -16,8 +16,8 @@ invariant_of-self g c =
     record {
       long = ap length changed ∙ length-set _ _ _ ∙ tag.long;
       lettered =
-        subst (λ (cells : List Cell). ∥ Lettered card.letters (take card.cells cells) ∥₁) (sym changed)
-            (lettered_changed card.letters card.cells tag.table.cells _ blank_cell (omega arith) tt tag.lettered);
+          subst (λ (cells : List Cell). ∥ Lettered card.letters (take card.cells cells) ∥₁) (sym changed)
+          (lettered_changed card.letters card.cells tag.table.cells _ blank_cell (omega arith) tt tag.lettered);
     }
 
 pub returns : goal.returns

@@ -1,4 +1,4 @@
-use Rattle.std.proofs.Common.{arith, rules}
+use Rattle.std.proofs.Common.{rules}
 use Rattle.fields.specs.ListedPrimes.{listed_small}
 use Rattle.fields.proofs.prime_field.arithmetic.PrimeFieldField.add.Goals as goal
 
