@@ -6,6 +6,7 @@ mod inspect;
 mod monday;
 mod show;
 
+use anyhow::anyhow;
 use friday::read_found;
 use inspect::{inspect_cells, inspect_line, noted_cells};
 use monday::ink;
@@ -29,7 +30,7 @@ fn run(rt: &HostRuntime) -> anyhow::Result<()> {
             let inked = inspect_cells(noted_cells(&word));
             println!(rt; "Monday, {line} is inked:\n{inked}")?;
         }
-        Err(refusal) => return Err(data_refusal_text(heap, line, refusal)?.into()),
+        Err(refusal) => return Err(anyhow!(data_refusal_text(heap, line, refusal)?)),
     }
     next_line(rt, &mut input)?;
     let line = input.as_str().trim_end();
@@ -38,7 +39,7 @@ fn run(rt: &HostRuntime) -> anyhow::Result<()> {
             println!(rt; "later, {line} is found:\n{found}")?;
             rt.println(read_found(heap, &found.cells)?)?;
         }
-        Err(refusal) => return Err(line_refusal_text(heap, line, refusal)?.into()),
+        Err(refusal) => return Err(anyhow!(line_refusal_text(heap, line, refusal)?)),
     }
     Ok(())
 }
