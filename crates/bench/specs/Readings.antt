@@ -1,5 +1,5 @@
 -- What is read, and when a reading is right. Assumes nothing.
-use Rattle.std.specs.Prelude.{◌≡◌, ℕ, Bool, true, List, Ok, Err, Result}
+use Rattle.std.specs.Prelude.{◌≡◌, ℕ, List, Ok, Err, Result}
 use Rattle.algebra.specs.Meaning.{Arithmetic, Meaning}
 use Rattle.codes.specs.Code.{Code}
 use Rattle.codes.specs.Cells.{blanks}
