@@ -1,15 +1,13 @@
 -- The records of an inked tag, one after the other. Assumes nothing.
-use Rattle.std.proofs.Common.{◌≡◌, ℕ, ◌+◌, ◌-◌, ◌<◌, ◌≤◌, List, ◌++◌, length, take, drop, Ok, Err, sym, refl, ap, ◌∙◌, subst, ap₂, subst₂, arith}
+use Rattle.std.proofs.Common.{◌≡◌, ℕ, ◌+◌, ◌-◌, ◌≤◌, List, ◌++◌, length, take, Err, sym, ap, ◌∙◌, subst, ap₂, subst₂, arith}
 use Rattle.std.proofs.lemmas.List.{append_assoc, length-append, take_at}
 use Rattle.fields.specs.Kinds.{prime_kind}
 use Rattle.codes.specs.Code.{Code}
 use Rattle.codes.specs.declared.cell.Cell.{Cell}
 use Rattle.house.specs.HouseRows.{inked, row_code}
 use Rattle.bodies.specs.CardBodies.{card_body}
-use Rattle.bodies.specs.CellBodies.{cells_body}
-use Rattle.trayfile.specs.Entries.{record_bytes}
 use Rattle.trayfile.specs.Kinds.{kind_number}
-use Rattle.trayfile.specs.declared.kind.Kind.TheVariants.{Card, Cells}
+use Rattle.trayfile.specs.declared.kind.Kind.TheVariants.{Card}
 use Rattle.traywriter.specs.Writing.{Put, RecordWritten}
 use Rattle.traywriter.specs.Writers.{CellsWritten}
 use Rattle.traywriter.specs.declared.write_refusal.WriteRefusal.{WriteRefusal}

@@ -1,5 +1,5 @@
 -- A run of a line and a read: what the law over runs says of its two events. Assumes nothing.
-use Rattle.std.proofs.Common.{◌≡◌, ℕ, ◌<◌, List, [], ◌∷◌, map, length, get_or, take, replicate, Some, None, Ok, Err, Option, Result, sym, refl, ap, ◌∙◌, subst, subst₂, arith, Bor}
+use Rattle.std.proofs.Common.{◌≡◌, ℕ, ◌<◌, List, [], ◌∷◌, map, length, get_or, take, None, Ok, Err, Option, Result, sym, refl, ap, ◌∙◌, subst, subst₂, arith, Bor}
 use Rattle.std.specs.Str.{chars}
 use Rattle.std.proofs.lemmas.List.{get_or-map}
 use Rattle.algebra.specs.Meaning.{Arithmetic}
@@ -11,12 +11,12 @@ use Rattle.reading.specs.declared.read_answer.ReadRefusal.{ReadRefusal}
 use Rattle.reading.specs.declared.read_answer.ReadRefusal.TheVariants.{WrongLength, TooBlank, Lost}
 use Rattle.tags.specs.Calls.{call_of}
 use Rattle.lines.specs.Lines.{line_number}
-use Rattle.tags.specs.Runs.{RunLaw, ReadFresh, fresh_buffer}
+use Rattle.tags.specs.Runs.{RunLaw, fresh_buffer}
 use Rattle.tags.specs.Sheet.{blank_sheet, refusal_of_line, marked_cells, refused, unless_refused}
 use Rattle.tags.specs.declared.call.Call.{Call}
 use Rattle.tags.specs.declared.call.Call.TheVariants as call
 use Rattle.tags.specs.declared.event.Event.{Event}
-use Rattle.tags.specs.declared.event.Event.TheVariants.{Note, Line, Read}
+use Rattle.tags.specs.declared.event.Event.TheVariants.{Line, Read}
 use Rattle.lines.specs.declared.line.LineRefusal.{LineRefusal}
 
 two : (xs : List Event) (d : Event) → length xs ≡ 2 → xs ≡ get_or xs 0 d ∷ get_or xs 1 d ∷ []

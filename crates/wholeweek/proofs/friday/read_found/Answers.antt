@@ -1,6 +1,5 @@
-use Rattle.std.proofs.Common.{◌≡◌, ℕ, List, take, Some, None, Ok, Err, Result, sym, refl, ap, ◌∙◌, subst, subst₂}
+use Rattle.std.proofs.Common.{ℕ, List, take, Result, sym, refl, ap, ◌∙◌, subst, subst₂}
 use Rattle.std.specs.Str.{chars}
-use Rattle.algebra.specs.Meaning.{Arithmetic}
 use Rattle.fields.specs.Modulo.{modulo}
 use Rattle.codes.specs.Code.{Code}
 use Rattle.codes.specs.Cards.{card_code}
@@ -11,7 +10,6 @@ use Rattle.reading.specs.declared.read_answer.ReadRefusal.{ReadRefusal}
 use Rattle.lines.specs.Lines.{line_number}
 use Rattle.tags.specs.Runs.{fresh_buffer}
 use Rattle.tags.specs.Sheet.{refusal_of_line, marked_cells, refused}
-use Rattle.lines.specs.declared.line.LineRefusal.{LineRefusal}
 use Rattle.wholeweek.specs.Found.{empty_word}
 use Rattle.wholeweek.proofs.LineAndRead.{noted_by, read_under, refused_in, granted_in}
 use Rattle.wholeweek.proofs.friday.read_found.Goals as goal

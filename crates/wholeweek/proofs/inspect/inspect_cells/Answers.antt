@@ -1,4 +1,4 @@
-use Rattle.std.proofs.Common.{◌≡◌, ℕ, List, [], ◌∷◌, length, sym, refl, ap, ◌∙◌, subst, subst₂, rules}
+use Rattle.std.proofs.Common.{◌≡◌, List, [], ◌∷◌, length, sym, refl, ap, ◌∙◌, subst, subst₂, rules}
 use Rattle.algebra.specs.Meaning.{Arithmetic}
 use Rattle.fields.specs.Modulo.{modulo}
 use Rattle.fields.specs.declared.prime_field.PrimeField.{PrimeField}

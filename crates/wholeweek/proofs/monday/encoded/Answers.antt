@@ -1,4 +1,4 @@
-use Rattle.std.proofs.Common.{◌≡◌, ℕ, ◌≤◌, List, [], ◌∷◌, length, replicate, sym, refl, ap, ◌∙◌, subst, subst₂, arith, rules}
+use Rattle.std.proofs.Common.{◌≡◌, ℕ, ◌≤◌, List, length, replicate, refl, subst₂, arith, rules}
 use Rattle.algebra.specs.Meaning.{Meaning, with_inverses}
 use Rattle.fields.specs.Modulo.{modulo}
 use Rattle.codes.specs.Code.{Code}

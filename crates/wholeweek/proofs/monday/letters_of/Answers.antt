@@ -1,7 +1,6 @@
-use Rattle.std.proofs.Common.{◌≡◌, ℕ, List, length, get_or, Some, None, Option, sym, ap, ◌∙◌, arith, rules}
+use Rattle.std.proofs.Common.{◌≡◌, ℕ, length, Option, sym, ap, ◌∙◌, arith, rules}
 use Rattle.std.proofs.lemmas.List.{ext_get_or, length-map, get_or-map}
 use Rattle.codes.specs.Cells.{blank_cell, noted, noted_cell}
-use Rattle.codes.specs.declared.cell.Cell.{Cell}
 use Rattle.wholeweek.proofs.monday.letters_of.Goals as goal
 
 pub returns-in_default : goal.returns-in_default

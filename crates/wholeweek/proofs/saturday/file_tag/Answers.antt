@@ -1,4 +1,4 @@
-use Rattle.std.proofs.Common.{◌≡◌, ℕ, ◌-◌, ◌≤◌, length, refl, arith, rules}
+use Rattle.std.proofs.Common.{◌≡◌, length, refl, arith, rules}
 use Rattle.wholeweek.specs.Filed.{card_record, cells_record}
 use Rattle.wholeweek.proofs.FiledTags.{card_refused, cells_refused, card_put, both}
 use Rattle.wholeweek.proofs.saturday.file_tag.Goals as goal
