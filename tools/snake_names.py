@@ -13,11 +13,14 @@ import os
 import re
 import sys
 
-DECLARED = re.compile(r"^\s*(?:(?:abbrev|unfoldable|pub|ruleset)\s+)*(?:(?:record|data)\s+)?([^\s:(){}\".,;]+)\s*(?::\s|\(|\{|$)")
+DECLARED = re.compile(r"^\s*(?:(?:abbrev|unfoldable|pub|ruleset)\s+)*(?:(?:record|data)\s+)?([^\s:(){}\".,;]+)\s*(?::\s|:$|\(|\{|$)")
+RULESET = re.compile(r"^\s*(?:pub\s+)?ruleset\s+([^\s:(){}\".,;]+)")
 TOKEN = re.compile(r"[^\s(){}.,;\"\[\]]+(?:\[\])?")
 MADE = re.compile(
     r"^(loop|if|in_ok|in_err|returns|overflow|invariant|decreases|then|else|index|bound|slice|requires|ensures|type|divides|shift|cast|unwrap)[-_]|-(requires|ensures|result|init|preserved|smaller|index)$"
 )
+# Names that a definition or a clause binds or brings in under another name.
+BOUND = ["f-after", "w-after", "record-place", "number-place", "record-read", "line-call", "line-event", "read-call", "read-event", "other_After"]
 # Names that would fall together with a function, a field or a library's word.
 OTHERWISE = {
     "times-linear": "linear_product",
@@ -27,6 +30,7 @@ OTHERWISE = {
     "wipe-refusal": "refusal_of_wipe",
     "line-refusal": "refusal_of_line",
     "task-of": "task_for",
+    "other_After": "other_after",
 }
 
 
@@ -51,16 +55,15 @@ def declared():
         for line in text(path).splitlines():
             if line.lstrip().startswith(("--", "use ", "mod ", "pub mod ")):
                 continue
-            m = DECLARED.match(line)
+            m = RULESET.match(line) or DECLARED.match(line)
             if not m:
                 continue
             name = m.group(1)
-            if "-" not in name.strip("-") or not re.match(r"[\w]", name):
+            if "-" not in name.strip("-") or "◌" in name:
                 continue
             if answers and (": goal." in line or MADE.search(name)):
                 continue
-            if re.match(r"^[\w'-]*-[\w'\-⊕⊗⊖Σ∷𝟘𝟙?]*(\[\])?$|^[\w'-]+-\[\]$", name) or "-" in name:
-                found[name].add(path)
+            found[name].add(path)
     return found
 
 
@@ -122,6 +125,7 @@ def turn(line, names, rust):
 def main():
     library = lent()
     names = {name: where for name, where in declared().items() if name not in library}
+    names.update((name, set()) for name in BOUND)
     look = "--look" in sys.argv
     known = collections.defaultdict(set)
     for path in files(".antt"):
@@ -140,7 +144,7 @@ def main():
         if len(olds) > 1:
             print("together:", new, sorted(olds))
         if new in known:
-            print("known:", new, "from", sorted(olds), "in", sorted(names[next(iter(olds))])[:2], "also in", sorted(known[new])[:3])
+            print("known:", new, "from", sorted(olds), "also in", sorted(known[new])[:3])
     for path in files(".rt"):
         code = text(path)
         brought = set()

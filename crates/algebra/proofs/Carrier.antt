@@ -11,7 +11,7 @@ use Rattle.algebra.specs.Places.{Member}
 use Rattle.algebra.specs.Power.{times_power, power, sum}
 use Rattle.algebra.specs.Polynomial.{negate, evaluate, plus_linear, annihilator, quotient_linear, act, or_zero}
 use Rattle.algebra.specs.Theorems.{cofactor}
-use Rattle.algebra.proofs.Ring.{CommutativeRing, AbstractField, ⊗-𝟘, ⊗-𝟙, 𝟙_⊗, ⊗-assoc, ⊕-assoc, ⊕-⊖, ⊕-𝟘}
+use Rattle.algebra.proofs.Ring.{CommutativeRing, AbstractField, ⊗_𝟘, ⊗_𝟙, 𝟙_⊗, ⊗_assoc, ⊕_assoc, ⊕_⊖, ⊕_𝟘}
 use Rattle.algebra.proofs.Sums.{Σ}
 use Rattle.algebra.proofs.Polynomials
 use Rattle.algebra.proofs.Interpolation
@@ -108,7 +108,7 @@ module _ {A : Arithmetic} (W : Lawful A) where
 
   pub times_zero : (x : ℕ) → x < A.size → A.times x 0 ≡ 0
   unfolding ring
-  times_zero x h = ap (λ z. z.0) (⊗-𝟘 ring (x, h))
+  times_zero x h = ap (λ z. z.0) (⊗_𝟘 ring (x, h))
 
   pub negate_is : (x : Element A) → negate A x.0 ≡ (⊖ x).0
   unfolding ring
@@ -124,13 +124,13 @@ module _ {A : Arithmetic} (W : Lawful A) where
       back = element_path A (unfold ring in W.ring.minus_plus x.0 y.0 x.1 y.1)
 
       difference : d ≡ x ⊕ ⊖ y
-      difference = sym (⊕-𝟘 ring d) ∙ ap (λ z. d ⊕ z) (sym (⊕-⊖ ring y)) ∙ sym (⊕-assoc ring d y (⊖ y)) ∙ ap (λ z. z ⊕ ⊖ y) back
+      difference = sym (⊕_𝟘 ring d) ∙ ap (λ z. d ⊕ z) (sym (⊕_⊖ ring y)) ∙ sym (⊕_assoc ring d y (⊖ y)) ∙ ap (λ z. z ⊕ ⊖ y) back
 
   pub times_power_is : (x a : Element A) (k : ℕ) → times_power A x.0 a.0 k ≡ (x ⊗ Polynomials.pow ring a k).0
   unfolding ring Polynomials.pow
-  times_power_is x a zero = ap (λ z. z.0) (sym (⊗-𝟙 ring x))
+  times_power_is x a zero = ap (λ z. z.0) (sym (⊗_𝟙 ring x))
   times_power_is x a (suc k) = ap (λ z. A.times z a.0) (times_power_is x a k)
-      ∙ ap (λ z. z.0) (⊗-assoc ring x (Polynomials.pow ring a k) a)
+      ∙ ap (λ z. z.0) (⊗_assoc ring x (Polynomials.pow ring a k) a)
 
   pub power_is : (a : Element A) (k : ℕ) → power A a.0 k ≡ (Polynomials.pow ring a k).0
   unfolding ring

@@ -2,7 +2,7 @@
 -- power its coefficient. Assumes nothing.
 use Rattle.std.proofs.Common.{◌≡◌, ℕ, zero, suc, ◌+◌, ◌-◌, ◌<◌, ◌≤◌, sym, refl, ap, ◌∙◌, ap₂, ⊎_elim, add-zero, add-suc, suc-add, arith}
 use Rattle.std.proofs.lemmas.Bool.{cases_lt}
-use Rattle.algebra.proofs.Ring.{CommutativeRing, ⊕-𝟘, 𝟘_⊕, 𝟘_⊗, ⊕-⊗, ⊗-assoc, ⊗-left-comm, ⊖-⊗, ring-zeros}
+use Rattle.algebra.proofs.Ring.{CommutativeRing, ⊕_𝟘, 𝟘_⊕, 𝟘_⊗, ⊕_⊗, ⊗_assoc, ⊗_left_comm, ⊖_⊗, ring_zeros}
 use Rattle.algebra.proofs.Sums.{Σ, Σ_zero, Σ_first, Σ_cong, Σ_⊗, Σ_⊕, Σ_⊖, Σ_𝟘, Σ_swap, Σ_split}
 
 module _ {A : Type 0} (R : CommutativeRing A) where
@@ -15,7 +15,7 @@ module _ {A : Type 0} (R : CommutativeRing A) where
   pub Σ_bound : (n N : ℕ) (f : ℕ → A) → n ≤ N → ((i : ℕ) → n ≤ i → f i ≡ 𝟘) → Σ R N f ≡ Σ R n f
   Σ_bound n N f h e =
       let whole : N ≡ n + (N - n) = omega arith in
-      ap (λ k. Σ R k f) whole ∙ Σ_split R n (N - n) f ∙ ap (λ z. Σ R n f ⊕ z) (Σ_𝟘 R (N - n) _ (λ i _. e (n + i) (omega arith))) ∙ ⊕-𝟘 R _
+      ap (λ k. Σ R k f) whole ∙ Σ_split R n (N - n) f ∙ ap (λ z. Σ R n f ⊕ z) (Σ_𝟘 R (N - n) _ (λ i _. e (n + i) (omega arith))) ∙ ⊕_𝟘 R _
 
   -- X × f
   unfoldable pub push : (ℕ → A) → ℕ → A
@@ -80,7 +80,7 @@ module _ {A : Type 0} (R : CommutativeRing A) where
       ∙ Σ_⊕ R M _ _ ∙ ap₂ ◌⊕◌ (Σ_⊗ R M x _) (Σ_⊖ R M _ ∙ ap (λ z. ⊖ z) (Σ_⊗ R M y _))
     where
       distributed : (x p y q t : A) → (x ⊗ p ⊕ ⊖ (y ⊗ q)) ⊗ t ≡ x ⊗ (p ⊗ t) ⊕ ⊖ (y ⊗ (q ⊗ t))
-      distributed x p y q t = simp (⊕-⊗, ⊖-⊗, ⊗-assoc)
+      distributed x p y q t = simp (⊕_⊗, ⊖_⊗, ⊗_assoc)
 
   -- two polynomials may be applied in either order
   pub conv_conv : (M L : ℕ) (f g t : ℕ → A) (n : ℕ) → conv M f (conv L g t) n ≡ conv L g (conv M f t) n
@@ -90,7 +90,7 @@ module _ {A : Type 0} (R : CommutativeRing A) where
       ∙ Σ_cong R L _ _ (λ j _. Σ_cong R M _ _ (λ i _. turned (f i) (g j) n i j) ∙ Σ_⊗ R M (g j) _)
     where
       turned : (a b : A) (n i j : ℕ) → a ⊗ (b ⊗ t (n + i + j)) ≡ b ⊗ (a ⊗ t (n + j + i))
-      turned a b n i j = ⊗-left-comm R a b _ ∙ ap (λ k. b ⊗ (a ⊗ t k)) (let e : n + i + j ≡ n + j + i = omega arith in e)
+      turned a b n i j = ⊗_left_comm R a b _ ∙ ap (λ k. b ⊗ (a ⊗ t k)) (let e : n + i + j ≡ n + j + i = omega arith in e)
 
   -- w_(N−1), .., w_0 and then zeros
   unfoldable pub mirror : ℕ → (ℕ → A) → ℕ → A
@@ -123,6 +123,6 @@ module _ {A : Type 0} (R : CommutativeRing A) where
 
   pub mirror_difference : (N : ℕ) (x : A) (p : ℕ → A) (y : A) (q : ℕ → A) (n : ℕ) → mirror N (difference x p y q) n ≡ x ⊗ mirror N p n ⊕ ⊖ (y ⊗ mirror N q n)
   unfolding mirror
-  mirror_difference zero x p y q n = simp ring-zeros
+  mirror_difference zero x p y q n = simp ring_zeros
   mirror_difference (suc N) x p y q zero = refl
   mirror_difference (suc N) x p y q (suc n) = mirror_difference N x p y q n

@@ -23,7 +23,7 @@ use Rattle.algebra.specs.ErrorLocators.{
   OnlyNear,
 }
 use Rattle.algebra.proofs.Places.{member_if, member_not, member?}
-use Rattle.algebra.proofs.Ring.{AbstractField, ⊕-⊖, difference_zero}
+use Rattle.algebra.proofs.Ring.{AbstractField, ⊕_⊖, difference_zero}
 use Rattle.algebra.proofs.Polynomials
 use Rattle.algebra.proofs.Points
 use Rattle.algebra.proofs.Syndromes
@@ -94,7 +94,7 @@ module _ {m : Meaning} (laws : Laws m) (n r : ℕ) (a h u c : ℕ → ℕ) (E : 
     where
       by_test : (b : Bool) → cond b true (eqb (u j) (c j)) ≡ true → cond b 𝟘 (up u j ⊕ ⊖ up c j) ≡ 𝟘
       by_test true t = refl
-      by_test false t = ap (λ z. up u j ⊕ ⊖ Carrier.lift W z) (sym (eqb-true (u j) (c j) t)) ∙ ⊕-⊖ K.ring (up u j)
+      by_test false t = ap (λ z. up u j ⊕ ⊖ Carrier.lift W z) (sym (eqb-true (u j) (c j) t)) ∙ ⊕_⊖ K.ring (up u j)
 
   -- and elsewhere there is one
   an_error : (j : ℕ) → j < n → (Member j E → ⊥) → (u j ≡ c j → ⊥) → e j ≡ 𝟘 → ⊥
@@ -110,36 +110,36 @@ module _ {m : Meaning} (laws : Laws m) (n r : ℕ) (a h u c : ℕ → ℕ) (E : 
       (λ j hj out. sym (Carrier.value_lift W (u j) (G.noted j hj out))) (k + i))
 
   -- a polynomial of numbers applied to the modified sums
-  act-modified-is :
+  act_modified_is :
       (f : List ℕ) (g : List (Carrier.Element m.arithmetic)) → f ≡ Carrier.values W g → (k : ℕ) →
       act m.arithmetic f (modified_sum m.arithmetic n a h E u) k ≡
       (Polynomials.act K.ring g (Syndromes.modified K.ring n (up a) (up h) E (up u)) k).0
-  act-modified-is f g p k = ap (λ q. act m.arithmetic q (modified_sum m.arithmetic n a h E u) k) p
+  act_modified_is f g p k = ap (λ q. act m.arithmetic q (modified_sum m.arithmetic n a h E u) k) p
       ∙ Carrier.act_up W g _ _ k (λ i _. modified_sum_is (k + i))
 
   codeword : (k : ℕ) → k < r → Syndromes.syndrome K.ring n (up a) (up h) (up c) k ≡ 𝟘
-  codeword k hk = Elements.word-sum-lift W G.locators G.multipliers c G.letters k (G.codeword k hk)
+  codeword k hk = Elements.word_sum_lift W G.locators G.multipliers c G.letters k (G.codeword k hk)
 
   locator_fits_at : (F : List ℕ) → Theorems.DistinctPlaces n F → ((j : ℕ) → j < n → (Member j E → ⊥) → (u j ≡ c j → ⊥) → Member j F) →
       FitsModified m.arithmetic n r a h u E (annihilator m.arithmetic (map a F))
   locator_fits_at F D all k hk =
-      act-modified-is _ _ (Carrier.annihilator_up W a F (λ i mi. G.locators.element i (D.below i mi))) k
+      act_modified_is _ _ (Carrier.annihilator_up W a F (λ i mi. G.locators.element i (D.below i mi))) k
       ∙ Elements.zero_value W (ErrorLocators.locator_fits K n r (up a) (up h) (up u) (up c) E (Elements.locators W G.locators)
       G.erased.below (Elements.multipliers W G.multipliers) codeword F
       (λ j hj wrong. all j hj (λ mj. wrong (cond-true (member j E) 𝟘 _ (member_if j E mj)))
       (λ q. wrong (no_error j (agrees_same E u c j q)))) k
       (omega (arith, length_annihilator m.arithmetic (map a F), length-map F a)))
 
-  error-roots-at :
+  error_roots_at :
       (f : List ℕ) → 2 * errors n E u c + length E ≤ r → ((k : ℕ) → get_or f k 0 < m.arithmetic.size) → length f ≤ suc (errors n E u c) →
       FitsModified m.arithmetic n r a h u E f → (j : ℕ) → j < n → (Member j E → ⊥) → (u j ≡ c j → ⊥) → evaluate m.arithmetic f (a j) ≡ 0
-  error-roots-at f near elements short fits j hj out differ =
+  error_roots_at f near elements short fits j hj out differ =
       Elements.evaluation W f elements (a j) (G.locators.element j hj)
-      ∙ Elements.zero_value W (ErrorLocators.error-root K n r (up a) (up h) (up u) (up c) E (Elements.locators W G.locators)
+      ∙ Elements.zero_value W (ErrorLocators.error_root K n r (up a) (up h) (up u) (up c) E (Elements.locators W G.locators)
       G.erased.below (Elements.multipliers W G.multipliers) codeword
       (errors n E u c) (map (Carrier.lift W) f) (Elements.wt_failures laws n e (agrees E u c) (λ i _. no_error i)) near
       (omega (arith, length-map f (Carrier.lift W)))
-      (λ k hk. Elements.is_zero W (sym (act-modified-is f _ (Carrier.coefficients_up W f elements) k)
+      (λ k hk. Elements.is_zero W (sym (act_modified_is f _ (Carrier.coefficients_up W f elements) k)
       ∙ fits k (omega (arith, length-map f (Carrier.lift W)))))
       j hj (an_error j hj out differ))
 
@@ -158,7 +158,7 @@ error_locator {m} laws n r a h u c E G = (
     wrong = failing n (agrees E u c)
 
 pub error_roots : {m : Meaning} → Laws m → ErrorRoots m
-error_roots laws n r a h u c E f G = error-roots-at laws n r a h u c E G f
+error_roots laws n r a h u c E f G = error_roots_at laws n r a h u c E G f
 
 pub completeness : {m : Meaning} → Laws m → Completeness m
 completeness {m} laws n r a h u c E f F G near elements short fits D few all j hj =

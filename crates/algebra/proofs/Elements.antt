@@ -54,10 +54,10 @@ module _ {A : Arithmetic} (W : Lawful A) where
       annihilator A points ≡ Carrier.values W (Polynomials.annihilator (ring W) (map (lift W) points))
   annihilator_points points elements = ap (annihilator A) (sym (map-id points)) ∙ Carrier.annihilator_up W (λ i. i) points elements
 
-  pub annihilator-value :
+  pub annihilator_value :
       (points : List ℕ) → ((i : ℕ) → Member i points → i < A.size) → (x : ℕ) → x < A.size →
       evaluate A (annihilator A points) x ≡ (Polynomials.eval (ring W) (Polynomials.annihilator (ring W) (map (lift W) points)) (lift W x)).0
-  annihilator-value points elements x h =
+  annihilator_value points elements x h =
       ap₂ (evaluate A) (annihilator_points points elements) (sym (value_lift W x h))
       ∙ Carrier.evaluate_is W (Polynomials.annihilator (ring W) (map (lift W) points)) (lift W x)
 
@@ -86,10 +86,10 @@ module _ {A : Arithmetic} (W : Lawful A) where
   word_sum_is {n} {a} {h} L M v w e k =
       Carrier.sum_up W n _ _ (λ i below. term_is (v i) (w i) (h i) (a i) k (e i below) (M.element i below) (L.element i below))
 
-  pub word-sum-lift :
+  pub word_sum_lift :
       {n : ℕ} {a h : ℕ → ℕ} → Theorems.Locators A n a → Theorems.Multipliers A n h → (v : ℕ → ℕ) → Theorems.Elements A n v → (k : ℕ) →
       Theorems.word_sum A n a h v k ≡ 0 → Syndromes.syndrome (ring W) n (λ i. lift W (a i)) (λ i. lift W (h i)) (λ i. lift W (v i)) k ≡ 𝟘
-  word-sum-lift L M v elements k e = is_zero (sym (word_sum_is L M v (λ i. lift W (v i))
+  word_sum_lift L M v elements k e = is_zero (sym (word_sum_is L M v (λ i. lift W (v i))
       (λ i below. sym (value_lift W (v i) (elements i below))) k) ∙ e)
 
   pub noted_sum_is :

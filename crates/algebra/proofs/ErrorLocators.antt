@@ -11,15 +11,15 @@ use Rattle.algebra.proofs.Ring.{
   AbstractField,
   zero?,
   𝟘_⊗,
-  ⊗-𝟘,
-  ⊕-𝟘,
-  ⊖-𝟘,
+  ⊗_𝟘,
+  ⊕_𝟘,
+  ⊖_𝟘,
   𝟘_⊕,
-  ⊕-⊗,
-  ⊖-⊗,
-  ⊗-nonzero,
+  ⊕_⊗,
+  ⊖_⊗,
+  ⊗_nonzero,
   zero_factor,
-  times-sort,
+  times_sort,
 }
 use Rattle.algebra.proofs.Sums.{Σ_cong, Σ_⊕, Σ_⊖, Σ_𝟘}
 use Rattle.algebra.proofs.Polynomials
@@ -43,7 +43,7 @@ module _ {A : Type 0} (K : AbstractField A) where
       ∙ regroup (x j) (Polynomials.pow R (a j) k) (Polynomials.eval R f (a j)))
     where
       regroup : (x p e : A) → x ⊗ (p ⊗ e) ≡ (x ⊗ e) ⊗ p
-      regroup x p e = simp times-sort
+      regroup x p e = simp times_sort
 
 module _ {A : Type 0} (K : AbstractField A) (n r : ℕ) (a h u c : ℕ → A) (E : List ℕ)
     (inj : Points.Injective K n a) (below : (j : ℕ) → Member j E → j < n)
@@ -81,20 +81,20 @@ module _ {A : Type 0} (K : AbstractField A) (n r : ℕ) (a h u c : ℕ → A) (E
   -- the noted sums are sums of the errors and of the erased letters
   noted_is : (k : ℕ) → k < r → s k ≡ Points.power_sum K n (λ j. errata j ⊗ h j) a k
   noted_is k hk =
-      sym (⊕-𝟘 K.ring _) ∙ ap (λ z. s k ⊕ z) (sym (Σ_⊖ K.ring n _ ∙ ap (λ z. ⊖ z) (codeword k hk) ∙ ⊖-𝟘 K.ring))
+      sym (⊕_𝟘 K.ring _) ∙ ap (λ z. s k ⊕ z) (sym (Σ_⊖ K.ring n _ ∙ ap (λ z. ⊖ z) (codeword k hk) ∙ ⊖_𝟘 K.ring))
       ∙ sym (Σ_⊕ K.ring n _ _) ∙ Σ_cong K.ring n _ _ (λ j _. either (member j E) (u j) (c j) (h j) (pow (a j) k))
     where
       either : (b : Bool) (u c h p : A) → cond b 𝟘 ((u ⊗ h) ⊗ p) ⊕ ⊖ ((c ⊗ h) ⊗ p) ≡ (cond b (⊖ c) (u ⊕ ⊖ c) ⊗ h) ⊗ p
-      either true u c h p = simp (𝟘_⊕, ⊖-⊗)
-      either false u c h p = simp (⊕-⊗, ⊖-⊗)
+      either true u c h p = simp (𝟘_⊕, ⊖_⊗)
+      either false u c h p = simp (⊕_⊗, ⊖_⊗)
 
   modified_is : (k : ℕ) → k + length E < r → T k ≡ Points.power_sum K n weight a k
   modified_is k hk =
       Polynomials.act_cong K.ring B s _ k (λ i hi. noted_is (k + i) (omega (arith, length_B)))
       ∙ act_power_sum K B n (λ j. errata j ⊗ h j) a k
       ∙ Σ_cong K.ring n _ _ (λ j _. ap (λ z. z ⊗ pow (a j) k) (elim (member? j E) [
-        | inl mj ↦ ap (λ z. (errata j ⊗ h j) ⊗ z) (root j mj) ∙ ⊗-𝟘 K.ring _
-            ∙ sym (ap (λ z. (e j ⊗ h j) ⊗ z) (root j mj) ∙ ⊗-𝟘 K.ring _)
+        | inl mj ↦ ap (λ z. (errata j ⊗ h j) ⊗ z) (root j mj) ∙ ⊗_𝟘 K.ring _
+            ∙ sym (ap (λ z. (e j ⊗ h j) ⊗ z) (root j mj) ∙ ⊗_𝟘 K.ring _)
         | inr out ↦ ap (λ z. (z ⊗ h j) ⊗ eval B (a j)) (cond-false (member j E) _ _ (member_not j E out)
             ∙ sym (cond-false (member j E) _ _ (member_not j E out)))
       ]))
@@ -108,7 +108,7 @@ module _ {A : Type 0} (K : AbstractField A) (n r : ℕ) (a h u c : ℕ → A) (E
   -- where there is an error, its weight is not 0
   weight_nonzero : (j : ℕ) → j < n → (e j ≡ 𝟘 → ⊥) → weight j ≡ 𝟘 → ⊥
   weight_nonzero j hj wrong =
-      ⊗-nonzero K _ _ (⊗-nonzero K _ _ wrong (nonzero j hj))
+      ⊗_nonzero K _ _ (⊗_nonzero K _ _ wrong (nonzero j hj))
       (Points.annihilator_nonroot K (map a E) (a j) (λ mj.
       let (i, mi, p) = member_of_map a (a j) E mj in
       wrong (cond-true (member j E) 𝟘 _ (member_if j E (member_moved (sym (inj j i hj (below i mi) p)) E mi)))))
@@ -123,11 +123,11 @@ module _ {A : Type 0} (K : AbstractField A) (n r : ℕ) (a h u c : ℕ → A) (E
       Polynomials.act_cong K.ring f T _ k (λ i hi. modified_is (k + i) (omega arith)) ∙ act_power_sum K f n weight a k
 
   -- a polynomial with at most w + 1 coefficients that fits the modified sums is 0 at each of at most w errors
-  pub error-root :
+  pub error_root :
       (w : ℕ) (f : List A) → Points.wt K n e ≤ w → 2 * w + length E ≤ r → length f ≤ suc w →
       ((k : ℕ) → k + length f + length E ≤ r → Polynomials.act K.ring f T k ≡ 𝟘) →
       (j : ℕ) → j < n → (e j ≡ 𝟘 → ⊥) → eval f (a j) ≡ 𝟘
-  error-root w f light near short fits j hj wrong =
+  error_root w f light near short fits j hj wrong =
       zero_factor K (weight j) (eval f (a j)) (weight_nonzero j hj wrong)
       (Points.kernel K n w a (λ j. weight j ⊗ eval f (a j)) inj
       (omega (arith, weight_light w light, Points.wt_⊗ K n weight (λ j. eval f (a j))))
@@ -142,7 +142,7 @@ module _ {A : Type 0} (K : AbstractField A) (n r : ℕ) (a h u c : ℕ → A) (E
       ∙ Σ_𝟘 K.ring n _ (λ j hj. ap (λ z. z ⊗ pow (a j) k) (elim (zero? K (e j)) [
         | yes z ↦ ap (λ z. ((z ⊗ h j) ⊗ eval B (a j)) ⊗ eval locator (a j)) z ∙ simp 𝟘_⊗
         | no wrong ↦ ap (λ z. weight j ⊗ z) (Polynomials.annihilator_root K.ring (a j) (map a W)
-            (member_map a j W (all j hj wrong))) ∙ ⊗-𝟘 K.ring _
+            (member_map a j W (all j hj wrong))) ∙ ⊗_𝟘 K.ring _
       ])
       ∙ 𝟘_⊗ K.ring _)
     where

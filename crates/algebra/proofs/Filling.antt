@@ -6,23 +6,23 @@ use Rattle.algebra.proofs.Places.{member_only, member_map, member_moved, without
 use Rattle.algebra.proofs.Ring.{
   CommutativeRing,
   AbstractField,
-  ⊕-𝟘,
+  ⊕_𝟘,
   𝟘_⊕,
   𝟘_⊗,
-  ⊗-assoc,
-  ⊗-comm,
-  ⊕-comm,
-  ⊕-⊗,
-  ⊖-⊗,
-  ⊖-unique,
-  ⊖-⊕,
+  ⊗_assoc,
+  ⊗_comm,
+  ⊕_comm,
+  ⊕_⊗,
+  ⊖_⊗,
+  ⊖_unique,
+  ⊖_⊕,
   inv_product,
-  ⊗-solve,
-  ⊗-nonzero,
+  ⊗_solve,
+  ⊗_nonzero,
   zero_factor,
   difference_zero,
-  times-sort,
-  ring-zeros,
+  times_sort,
+  ring_zeros,
 }
 use Rattle.algebra.proofs.Sums.{Σ, Σ_cong, Σ_⊕, Σ_⊖}
 use Rattle.algebra.proofs.Polynomials
@@ -76,10 +76,10 @@ module _ {A : Type 0} (K : AbstractField A) where
       (n r : ℕ) (a h v w : ℕ → A) → Injective K n a → ((i : ℕ) → i < n → h i ≡ 𝟘 → ⊥) → wt K n (λ i. v i ⊕ ⊖ w i) ≤ r →
       ((k : ℕ) → k < r → syndrome R n a h v k ≡ 𝟘) → ((k : ℕ) → k < r → syndrome R n a h w k ≡ 𝟘) → (i : ℕ) → i < n → v i ≡ w i
   distance n r a h v w inj nonzero near sv sw i below =
-      difference_zero R (v i) (w i) (zero_factor K (h i) (v i ⊕ ⊖ w i) (nonzero i below) (⊗-comm R (h i) _ ∙
+      difference_zero R (v i) (w i) (zero_factor K (h i) (v i ⊕ ⊖ w i) (nonzero i below) (⊗_comm R (h i) _ ∙
       kernel K n r a (λ i. (v i ⊕ ⊖ w i) ⊗ h i) inj (omega (arith, wt_⊗ K n (λ i. v i ⊕ ⊖ w i) h))
-      (λ k hk. Σ_cong R n _ _ (λ i _. simp (⊕-⊗, ⊖-⊗)) ∙ Σ_⊕ R n _ _ ∙ ap₂ ◌⊕◌ (sv k hk) (Σ_⊖ R n _ ∙ ap (λ z. ⊖ z) (sw k hk))
-      ∙ simp ring-zeros) i below))
+      (λ k hk. Σ_cong R n _ _ (λ i _. simp (⊕_⊗, ⊖_⊗)) ∙ Σ_⊕ R n _ _ ∙ ap₂ ◌⊕◌ (sv k hk) (Σ_⊖ R n _ ∙ ap (λ z. ⊖ z) (sw k hk))
+      ∙ simp ring_zeros) i below))
 
 module _ {A : Type 0} (K : AbstractField A) (n : ℕ) (a : ℕ → A) (E : List ℕ) (points : Points n a E) (h : ℕ → A) where
   open K.ring use {𝟘, 𝟙, ◌⊕◌, ◌⊗◌, ⊖◌}
@@ -103,7 +103,7 @@ module _ {A : Type 0} (K : AbstractField A) (n : ℕ) (a : ℕ → A) (E : List 
   apart v k = Σ_cong (R K) n _ _ (λ i _. either (member i E) (v i ⊗ h i) (pow K (a i) k)) ∙ Σ_⊕ (R K) n _ _
     where
       either : (b : Bool) (x p : A) → x ⊗ p ≡ cond b x 𝟘 ⊗ p ⊕ cond b 𝟘 (x ⊗ p)
-      either true x p = sym (⊕-𝟘 (R K) _)
+      either true x p = sym (⊕_𝟘 (R K) _)
       either false x p = sym (simp (𝟘_⊗, 𝟘_⊕))
 
   -- a word with r sums 0 has at its erased places, at most r, the letters that the others give
@@ -112,11 +112,11 @@ module _ {A : Type 0} (K : AbstractField A) (n : ℕ) (a : ℕ → A) (E : List 
       v j ≡ letter (noted (R K) n a h E v) j
   unfolding letter
   erased_letter r v few s j m nonzero =
-      ⊗-solve K (h j ⊗ eval K (P j) (a j)) (v j) _ (⊗-nonzero K _ _ nonzero (cofactor_own K n a E points j m))
-      (regroup (h j) (eval K (P j) (a j)) (v j) ∙ ⊖-unique (R K) _ _ (⊕-comm (R K) _ _ ∙ total))
+      ⊗_solve K (h j ⊗ eval K (P j) (a j)) (v j) _ (⊗_nonzero K _ _ nonzero (cofactor_own K n a E points j m))
+      (regroup (h j) (eval K (P j) (a j)) (v j) ∙ ⊖_unique (R K) _ _ (⊕_comm (R K) _ _ ∙ total))
     where
       regroup : (h e v : A) → (h ⊗ e) ⊗ v ≡ (v ⊗ h) ⊗ e
-      regroup h e v = simp times-sort
+      regroup h e v = simp times_sort
 
       total : (v j ⊗ h j) ⊗ eval K (P j) (a j) ⊕ Polynomials.act (R K) (P j) (noted (R K) n a h E v) 0 ≡ 𝟘
       total =
@@ -136,17 +136,17 @@ module _ {A : Type 0} (K : AbstractField A) (n : ℕ) (a : ℕ → A) (E : List 
   erased_letters_fit u nonzero k below =
       Σ_cong (R K) n _ _ (λ i _. either (member i E) (letter (noted (R K) n a h E u) i) (u i) (h i) (weights K n a E points y i)
       (pow K (a i) k) (λ e. made i (member_only i E e)))
-      ∙ Σ_⊕ (R K) n _ _ ∙ ap (λ z. z ⊕ noted (R K) n a h E u k) (surjectivity K n a E points y k below) ∙ ⊖-⊕ (R K) _
+      ∙ Σ_⊕ (R K) n _ _ ∙ ap (λ z. z ⊕ noted (R K) n a h E u k) (surjectivity K n a E points y k below) ∙ ⊖_⊕ (R K) _
     where
       y : ℕ → A
       y k = ⊖ noted (R K) n a h E u k
 
       either : (b : Bool) (l u h x p : A) → (b ≡ true → l ⊗ h ≡ x) → (cond b l u ⊗ h) ⊗ p ≡ cond b x 𝟘 ⊗ p ⊕ cond b 𝟘 ((u ⊗ h) ⊗ p)
-      either true l u h x p e = ap (λ z. z ⊗ p) (e refl) ∙ sym (⊕-𝟘 (R K) _)
+      either true l u h x p e = ap (λ z. z ⊗ p) (e refl) ∙ sym (⊕_𝟘 (R K) _)
       either false l u h x p e = sym (simp (𝟘_⊗, 𝟘_⊕))
 
       made : (i : ℕ) → Member i E → letter (noted (R K) n a h E u) i ⊗ h i ≡ weights K n a E points y i
       made i m =
-          ⊗-assoc (R K) _ _ (h i)
+          ⊗_assoc (R K) _ _ (h i)
           ∙ ap₂ ◌⊗◌ (sym (Polynomials.act_⊖ (R K) (P i) (noted (R K) n a h E u) 0))
           (inv_product K (h i) (eval K (P i) (a i)) (nonzero i m) (cofactor_own K n a E points i m))

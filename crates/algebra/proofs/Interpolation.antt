@@ -6,7 +6,7 @@ use lib.ListN.{length-map}
 use Rattle.std.proofs.lemmas.Bool.{cond-true, cond-false}
 use Rattle.algebra.specs.Places.{Member, Distinct, member}
 use Rattle.algebra.proofs.Places.{member_if, member_not, member?, member_map, member_of_map, distinct_map}
-use Rattle.algebra.proofs.Ring.{CommutativeRing, AbstractField, 𝟘_⊗, ⊗-𝟘, ⊗-𝟙, ⊗-assoc, ⊕-⊗, ⊖-⊗, ⊕-⊖, inv_⊗, difference_zero, times-sort}
+use Rattle.algebra.proofs.Ring.{CommutativeRing, AbstractField, 𝟘_⊗, ⊗_𝟘, ⊗_𝟙, ⊗_assoc, ⊕_⊗, ⊖_⊗, ⊕_⊖, inv_⊗, difference_zero, times_sort}
 use Rattle.algebra.proofs.Sums.{Σ, Σ_cong, Σ_⊗, Σ_⊗_right, Σ_⊕, Σ_⊖, Σ_one, Σ_swap, Σ_delta, keep}
 use Rattle.algebra.proofs.Polynomials
 use Rattle.algebra.proofs.Points.{root_count, quo_root, annihilator_simple}
@@ -75,7 +75,7 @@ module _ {A : Type 0} (K : AbstractField A) (n : ℕ) (a : ℕ → A) (E : List 
   inside_one c f i m others =
       Σ_one R n _ i (points.below i m)
       (λ j _ off. elim (member? j E) [
-        | inl mj ↦ ap (λ z. inside R E c j ⊗ z) (others j mj off) ∙ ⊗-𝟘 R _
+        | inl mj ↦ ap (λ z. inside R E c j ⊗ z) (others j mj off) ∙ ⊗_𝟘 R _
         | inr out ↦ ap (λ z. z ⊗ f j) (inside_out R E c j out) ∙ 𝟘_⊗ R _
       ])
       ∙ ap (λ z. z ⊗ f i) (inside_in R E c i m)
@@ -89,7 +89,7 @@ module _ {A : Type 0} (K : AbstractField A) (n : ℕ) (a : ℕ → A) (E : List 
   combination_sum c y t =
       Σ_cong R t _ _ (λ k _. sym (Σ_⊗_right R n (y k) _))
       ∙ Σ_swap R t n _
-      ∙ Σ_cong R n _ _ (λ j _. Σ_cong R t _ _ (λ k _. ⊗-assoc R _ _ _) ∙ Σ_⊗ R t (inside R E c j) _)
+      ∙ Σ_cong R n _ _ (λ j _. Σ_cong R t _ _ (λ k _. ⊗_assoc R _ _ _) ∙ Σ_⊗ R t (inside R E c j) _)
 
   pub combination_eval : (c : ℕ → A) (x : A) → Σ R (length E) (λ k. combination c k ⊗ pow x k) ≡ Σ R n (λ j. inside R E c j ⊗ eval (P j) x)
   combination_eval c x =
@@ -117,13 +117,13 @@ module _ {A : Type 0} (K : AbstractField A) (n : ℕ) (a : ℕ → A) (E : List 
       at_place : (i : ℕ) → Member i E → eval (Polynomials.coeffs R (length E) d) (a i) ≡ 𝟘
       at_place i m =
           Polynomials.eval_powers R (length E) _ (a i) (omega (arith, Polynomials.length_coeffs R (length E) d))
-          ∙ Σ_cong R (length E) _ _ (λ k h. ap (λ z. z ⊗ pow (a i) k) (Polynomials.coeff_coeffs R (length E) d k h) ∙ simp (⊕-⊗, ⊖-⊗))
+          ∙ Σ_cong R (length E) _ _ (λ k h. ap (λ z. z ⊗ pow (a i) k) (Polynomials.coeff_coeffs R (length E) d k h) ∙ simp (⊕_⊗, ⊖_⊗))
           ∙ Σ_⊕ R (length E) _ _
           ∙ ap₂ ◌⊕◌ (sym (Polynomials.eval_powers R (length E) p (a i) short))
           (Σ_⊖ R (length E) _ ∙ ap (λ z. ⊖ z) (combination_eval c (a i)
-          ∙ inside_one c (λ j. eval (P j) (a i)) i m (λ j mj off. cofactor_other i j m mj (λ e. off (sym e))) ∙ ⊗-assoc R _ _ _
-          ∙ ap (λ z. eval p (a i) ⊗ z) (inv_⊗ K _ (cofactor_own i m)) ∙ ⊗-𝟙 R _))
-          ∙ ⊕-⊖ R _
+          ∙ inside_one c (λ j. eval (P j) (a i)) i m (λ j mj off. cofactor_other i j m mj (λ e. off (sym e))) ∙ ⊗_assoc R _ _ _
+          ∙ ap (λ z. eval p (a i) ⊗ z) (inv_⊗ K _ (cofactor_own i m)) ∙ ⊗_𝟙 R _))
+          ∙ ⊕_⊖ R _
 
       root : (b : A) → Member b (map a E) → eval (Polynomials.coeffs R (length E) d) b ≡ 𝟘
       root b m = let r = member_of_map a b E m in rw r.2 (at_place r.0 r.1)
@@ -163,5 +163,5 @@ module _ {A : Type 0} (K : AbstractField A) (n : ℕ) (a : ℕ → A) (E : List 
       sum_form j = Polynomials.act_sum R (length E) (P j) y 0 (omega (arith, length_cofactor j)) ∙ simp zero-add
 
       exchange : (b : Bool) (s i p q : A) {u : A} → s ≡ u → q ≡ p → cond b (s ⊗ i) 𝟘 ⊗ p ≡ cond b (q ⊗ i) 𝟘 ⊗ u
-      exchange true s i p q e f = rw (e, f) (simp times-sort)
+      exchange true s i p q e f = rw (e, f) (simp times_sort)
       exchange false s i p q e f = simp 𝟘_⊗

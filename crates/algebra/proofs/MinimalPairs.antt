@@ -3,7 +3,7 @@
 use Rattle.std.proofs.Common.{◌≡◌, ℕ, zero, suc, ◌+◌, ◌-◌, ◌<◌, ◌≤◌, sym, ap, ◌∙◌, ap₂, ⊎_elim, arith}
 use mathlib.Core.Path.{fun_ext}
 use Rattle.std.proofs.lemmas.Bool.{cases_lt}
-use Rattle.algebra.proofs.Ring.{CommutativeRing, AbstractField, ⊕-𝟘, 𝟘_⊕, ⊗-𝟘, 𝟘_⊗, ⊖-𝟘, ⊖-⊖, ⊕-⊖, ⊗-comm, ⊖-nonzero, ⊗-nonzero, difference_zero, ring-zeros, ring-laws}
+use Rattle.algebra.proofs.Ring.{CommutativeRing, AbstractField, ⊕_𝟘, 𝟘_⊕, ⊗_𝟘, 𝟘_⊗, ⊖_𝟘, ⊖_⊖, ⊕_⊖, ⊗_comm, ⊖_nonzero, ⊗_nonzero, difference_zero, ring_zeros, ring_laws}
 use Rattle.algebra.proofs.Sums.{Σ, Σ_zero, Σ_one, Σ_𝟘, Σ_cong, Σ_split}
 use Rattle.algebra.proofs.Convolutions.{Σ_bound, shift, shift_below, shift_at, shift_above, conv, conv_bound, conv_shift, difference, conv_difference, conv_conv, mirror, mirror_at, mirror_past, mirror_shift, mirror_difference}
 
@@ -40,37 +40,37 @@ module _ {A : Type 0} (R : CommutativeRing A) (s : ℕ → A) (N : ℕ) where
   residual_past f w k =
       ap₂ ◌⊕◌
       (Σ_cong R N _ _ (λ j _. ap (λ z. f j ⊗ z) (let e : N + k + j ≡ N + (k + j) = omega arith in ap (shift R N s) e ∙ shift_at R N s (k + j))))
-      (ap (λ z. ⊖ z) (mirror_past R N w k) ∙ ⊖-𝟘 R)
-      ∙ ⊕-𝟘 R _
+      (ap (λ z. ⊖ z) (mirror_past R N w k) ∙ ⊖_𝟘 R)
+      ∙ ⊕_𝟘 R _
 
-  pub residual-before :
+  pub residual_before :
       (f w : ℕ → A) (m n k : ℕ) → m < N → n + suc k ≡ N → ((j : ℕ) → m < j → f j ≡ 𝟘) →
       residual f w n ≡ Σ R (m - k) (λ t. f (k + 1 + t) ⊗ s t) ⊕ ⊖ w k
   unfolding residual conv
-  residual-before f w m n k small place above =
+  residual_before f w m n k small place above =
       let whole : N ≡ (k + 1) + (N - (k + 1)) = omega arith in
       ap₂ ◌⊕◌
       (ap (λ M. Σ R M (λ j. f j ⊗ shift R N s (n + j))) whole ∙ Σ_split R (k + 1) (N - (k + 1)) _
       ∙ ap₂ ◌⊕◌
-      (Σ_𝟘 R (k + 1) _ (λ j h. ap (λ z. f j ⊗ z) (shift_below R N s (n + j) (omega arith)) ∙ ⊗-𝟘 R (f j)))
+      (Σ_𝟘 R (k + 1) _ (λ j h. ap (λ z. f j ⊗ z) (shift_below R N s (n + j) (omega arith)) ∙ ⊗_𝟘 R (f j)))
       (Σ_cong R (N - (k + 1)) _ _ (λ t _. ap (λ z. f (k + 1 + t) ⊗ z) (let e : n + (k + 1 + t) ≡ N + t = omega arith in ap (shift R N s) e ∙ shift_at R N s t))
       ∙ Σ_bound R (m - k) (N - (k + 1)) _ (omega arith) (λ t h. ap (λ z. z ⊗ s t) (above (k + 1 + t) (omega arith)) ∙ 𝟘_⊗ R (s t)))
       ∙ 𝟘_⊕ R _)
       (ap (λ z. ⊖ z) (mirror_at R N w n k place))
 
   -- x × a pair − y × X^d × another
-  pub residual-difference :
+  pub residual_difference :
       (x y : A) (d : ℕ) (f w f' w' : ℕ → A) (n : ℕ) → ((j : ℕ) → N ≤ d + j → f' j ≡ 𝟘) →
       residual (difference R x f y (shift R d f')) (difference R x w y (shift R d w')) n ≡ x ⊗ residual f w n ⊕ ⊖ (y ⊗ residual f' w' (n + d))
   unfolding residual
-  residual-difference x y d f w f' w' n above =
+  residual_difference x y d f w f' w' n above =
       ap₂ (λ c e. c ⊕ ⊖ e)
       (conv_difference R N x f y (shift R d f') (shift R N s) n ∙ ap (λ z. x ⊗ conv R N f (shift R N s) n ⊕ ⊖ (y ⊗ z)) (conv_shift R N d f' (shift R N s) n above))
       (mirror_difference R N x w y (shift R d w') n ∙ ap (λ z. x ⊗ mirror R N w n ⊕ ⊖ (y ⊗ z)) (mirror_shift R N d w' n))
       ∙ regrouped x _ _ y _ _
     where
       regrouped : (x a b y c e : A) → (x ⊗ a ⊕ ⊖ (y ⊗ c)) ⊕ ⊖ (x ⊗ b ⊕ ⊖ (y ⊗ e)) ≡ x ⊗ (a ⊕ ⊖ b) ⊕ ⊖ (y ⊗ (c ⊕ ⊖ e))
-      regrouped x a b y c e = simp ring-laws
+      regrouped x a b y c e = simp ring_laws
 
   -- f has degree m and fits the first i terms, and w is its partner
   pub record Fitting (i m : ℕ) (f w : ℕ → A) : Type 0 where
@@ -91,7 +91,7 @@ module _ {A : Type 0} (R : CommutativeRing A) (s : ℕ → A) (N : ℕ) where
   Discrepancy i m f w D = (n : ℕ) → n + m ≡ N + i → residual f w n ≡ D
 
   zero_difference : (x a y b : A) → a ≡ 𝟘 → b ≡ 𝟘 → x ⊗ a ⊕ ⊖ (y ⊗ b) ≡ 𝟘
-  zero_difference x a y b p q = ap₂ (λ a b. x ⊗ a ⊕ ⊖ (y ⊗ b)) p q ∙ simp ring-zeros
+  zero_difference x a y b p q = ap₂ (λ a b. x ⊗ a ⊕ ⊖ (y ⊗ b)) p q ∙ simp ring_zeros
 
   -- a discrepancy of 0: the pair fits one term more
   pub passes : (i m : ℕ) (f w : ℕ → A) → Fitting i m f w → Discrepancy i m f w 𝟘 → Fitting (suc i) m f w
@@ -123,7 +123,7 @@ module _ {A : Type 0} (R : CommutativeRing A) (s : ℕ → A) (N : ℕ) where
         ap₂ (λ g t. residual g t n)
         (uncut R m f _ f-is (λ j l. zero_difference x _ y _ (pu.f_above j (omega arith)) (shift_above R d q b qv.f_above j (omega arith))))
         (uncut R m w _ w-is (λ j l. zero_difference x _ y _ (pu.w_above j (omega arith)) (shift_above R d v b qv.w_above j (omega arith))))
-        ∙ residual-difference x y d p u q v n (λ j l. qv.f_above j (omega arith))
+        ∙ residual_difference x y d p u q v n (λ j l. qv.f_above j (omega arith))
         ∙ cancels n r;
   }
 
@@ -131,7 +131,7 @@ module _ {A : Type 0} (R : CommutativeRing A) (s : ℕ → A) (N : ℕ) where
   before_start : (f w : ℕ → A) (n k : ℕ) → 0 < N → n + suc k ≡ N → Bounded R 0 f w → residual f w n ≡ ⊖ w k
   before_start f w n k positive place bounded =
       let none : 0 - k ≡ 0 = omega arith in
-      residual-before f w 0 n k positive place bounded.f_above ∙ ap (λ M. Σ R M (λ t. f (k + 1 + t) ⊗ s t) ⊕ ⊖ w k) none ∙ ap (λ z. z ⊕ ⊖ w k) (Σ_zero R _) ∙ 𝟘_⊕ R _
+      residual_before f w 0 n k positive place bounded.f_above ∙ ap (λ M. Σ R M (λ t. f (k + 1 + t) ⊗ s t) ⊕ ⊖ w k) none ∙ ap (λ z. z ⊕ ⊖ w k) (Σ_zero R _) ∙ 𝟘_⊕ R _
 
   -- read back: f fits, in the sense of the sequence alone,
   pub fits : (i m : ℕ) (f w : ℕ → A) → m < N → Fitting i m f w → (k : ℕ) → k + m < i → conv R (suc m) f s k ≡ 𝟘
@@ -141,7 +141,7 @@ module _ {A : Type 0} (R : CommutativeRing A) (s : ℕ → A) (N : ℕ) where
   -- and w is its partner
   pub partners : (i m : ℕ) (f w : ℕ → A) → m < N → m ≤ i → Fitting i m f w → (k : ℕ) → k < N → w k ≡ Σ R (m - k) (λ t. f (k + 1 + t) ⊗ s t)
   partners i m f w small read p k h =
-      sym (difference_zero R _ _ (sym (residual-before f w m (N - suc k) k small (omega arith) p.bounded.f_above) ∙ p.vanishes (N - suc k) (omega arith)))
+      sym (difference_zero R _ _ (sym (residual_before f w m (N - suc k) k small (omega arith) p.bounded.f_above) ∙ p.vanishes (N - suc k) (omega arith)))
 
   -- the discrepancy, in the sense of the sequence alone
   pub discrepancy : (i m : ℕ) (f w : ℕ → A) → m < N → m ≤ i → Bounded R m f w → Discrepancy i m f w (conv R (suc m) f s (i - m))
@@ -158,7 +158,7 @@ module _ {A : Type 0} (K : AbstractField A) (s : ℕ → A) (N : ℕ) where
   infixr 80 ⊖◌
   -- D × D' − D' × D
   crossed : (x y a b : A) → a ≡ y → b ≡ x → x ⊗ a ⊕ ⊖ (y ⊗ b) ≡ 𝟘
-  crossed x y a b p q = ap₂ (λ a b. x ⊗ a ⊕ ⊖ (y ⊗ b)) p q ∙ ap (λ z. z ⊕ ⊖ (y ⊗ x)) (⊗-comm K.ring x y) ∙ ⊕-⊖ K.ring (y ⊗ x)
+  crossed x y a b p q = ap₂ (λ a b. x ⊗ a ⊕ ⊖ (y ⊗ b)) p q ∙ ap (λ z. z ⊕ ⊖ (y ⊗ x)) (⊗_comm K.ring x y) ∙ ⊕_⊖ K.ring (y ⊗ x)
 
   module _ (i m m' d : ℕ) (f w f' w' f⁺ w⁺ : ℕ → A) (D D' : A) (fitting : Fitting K.ring s N i m f w) (kept : Kept K.ring s N m m' f' w' D') (discrepancy : Discrepancy K.ring s N i m f w D) (behind : m + m' ≤ i) where
     -- d ≥ 0: the degree stays
@@ -168,8 +168,8 @@ module _ {A : Type 0} (K : AbstractField A) (s : ℕ → A) (N : ℕ) where
         Fitting K.ring s N (suc i) m f⁺ w⁺
     stays small e =
         made K.ring s N D' D d i m m m' f w f' w' f⁺ w⁺ fitting.bounded kept.bounded (omega arith) (omega arith) small
-        (λ z. ⊗-nonzero K D' (f m) kept.nonzero fitting.leads
-        (sym (ap (λ b. D' ⊗ f m ⊕ ⊖ (D ⊗ b)) (shift_above K.ring d f' m' kept.bounded.f_above m (omega arith)) ∙ simp ring-zeros) ∙ z))
+        (λ z. ⊗_nonzero K D' (f m) kept.nonzero fitting.leads
+        (sym (ap (λ b. D' ⊗ f m ⊕ ⊖ (D ⊗ b)) (shift_above K.ring d f' m' kept.bounded.f_above m (omega arith)) ∙ simp ring_zeros) ∙ z))
         (λ n h. ⊎_elim
         (λ below. zero_difference K.ring s N D' _ D _ (fitting.vanishes n below) (kept.vanishes (n + d) (omega arith)))
         (λ last. crossed D' D _ _ (discrepancy n (omega arith)) (kept.remains (n + d) (omega arith)))
@@ -182,8 +182,8 @@ module _ {A : Type 0} (K : AbstractField A) (s : ℕ → A) (N : ℕ) where
         Fitting K.ring s N (suc i) (m + d) f⁺ w⁺
     grows small e =
         made K.ring s N D D' d i (m + d) m' m f' w' f w f⁺ w⁺ kept.bounded fitting.bounded (omega arith) (omega arith) small
-        (λ z. ⊖-nonzero K (D' ⊗ f m) (⊗-nonzero K D' (f m) kept.nonzero fitting.leads)
-        (sym (ap₂ (λ a b. D ⊗ a ⊕ ⊖ (D' ⊗ b)) (kept.bounded.f_above (m + d) (omega arith)) (let order : m + d ≡ d + m = omega arith in ap (shift K.ring d f) order ∙ shift_at K.ring d f m) ∙ simp ring-zeros) ∙ z))
+        (λ z. ⊖_nonzero K (D' ⊗ f m) (⊗_nonzero K D' (f m) kept.nonzero fitting.leads)
+        (sym (ap₂ (λ a b. D ⊗ a ⊕ ⊖ (D' ⊗ b)) (kept.bounded.f_above (m + d) (omega arith)) (let order : m + d ≡ d + m = omega arith in ap (shift K.ring d f) order ∙ shift_at K.ring d f m) ∙ simp ring_zeros) ∙ z))
         (λ n h. ⊎_elim
         (λ below. zero_difference K.ring s N D _ D' _ (kept.vanishes n below) (fitting.vanishes (n + d) (omega arith)))
         (λ last. crossed D D' _ _ (kept.remains n (omega arith)) (discrepancy (n + d) (omega arith)))
@@ -194,7 +194,7 @@ module _ {A : Type 0} (K : AbstractField A) (s : ℕ → A) (N : ℕ) where
   starts_fitting f w positive one none bounded = record {
     bounded = bounded;
     leads = λ e. K.one_not_zero (sym one ∙ e);
-    vanishes = λ n h. before_start K.ring s N f w n (N - suc n) positive (omega arith) bounded ∙ ap (λ z. ⊖ z) (zeros (N - suc n)) ∙ ⊖-𝟘 K.ring;
+    vanishes = λ n h. before_start K.ring s N f w n (N - suc n) positive (omega arith) bounded ∙ ap (λ z. ⊖ z) (zeros (N - suc n)) ∙ ⊖_𝟘 K.ring;
   }
     where
       zeros : (k : ℕ) → w k ≡ 𝟘
@@ -206,8 +206,8 @@ module _ {A : Type 0} (K : AbstractField A) (s : ℕ → A) (N : ℕ) where
   starts_kept f w positive minus_one bounded = record {
     bounded = bounded;
     nonzero = K.one_not_zero;
-    vanishes = λ n h. before_start K.ring s N f w n (N - suc n) positive (omega arith) bounded ∙ ap (λ z. ⊖ z) (bounded.w_above (N - suc n) (omega arith)) ∙ ⊖-𝟘 K.ring;
-    remains = λ n h. before_start K.ring s N f w n 0 positive (omega arith) bounded ∙ ap (λ z. ⊖ z) minus_one ∙ ⊖-⊖ K.ring 𝟙;
+    vanishes = λ n h. before_start K.ring s N f w n (N - suc n) positive (omega arith) bounded ∙ ap (λ z. ⊖ z) (bounded.w_above (N - suc n) (omega arith)) ∙ ⊖_𝟘 K.ring;
+    remains = λ n h. before_start K.ring s N f w n 0 positive (omega arith) bounded ∙ ap (λ z. ⊖ z) minus_one ∙ ⊖_⊖ K.ring 𝟙;
   }
 
   -- Nothing of a degree e below m fits: g_e D is the sum of all g_a f'_b s_(k+a+b) for k = m − 1 − e, where for each b
@@ -215,7 +215,7 @@ module _ {A : Type 0} (K : AbstractField A) (s : ℕ → A) (N : ℕ) where
   pub lowest :
       (i m m' e : ℕ) (f' w' g : ℕ → A) (D : A) → Kept K.ring s N m m' f' w' D → m + m' ≤ i → (g e ≡ 𝟘 → ⊥) →
       ((k : ℕ) → k + e < i → conv K.ring (suc e) g s k ≡ 𝟘) → m ≤ e
-  lowest i m m' e f' w' g D kept behind leads g-fits = ⊎_elim (λ lower. absurd (⊗-nonzero K (g e) D leads kept.nonzero (both_sums lower))) (λ h. h) (cases_lt e m)
+  lowest i m m' e f' w' g D kept behind leads g-fits = ⊎_elim (λ lower. absurd (⊗_nonzero K (g e) D leads kept.nonzero (both_sums lower))) (λ h. h) (cases_lt e m)
     where
       k : ℕ
       k = m - suc e
@@ -223,7 +223,7 @@ module _ {A : Type 0} (K : AbstractField A) (s : ℕ → A) (N : ℕ) where
       from_kept : e < m → conv K.ring (suc e) g (conv K.ring N f' s) k ≡ g e ⊗ D
       from_kept lower =
           unfold conv in
-          Σ_one K.ring (suc e) _ e (omega arith) (λ a h other. ap (λ z. g a ⊗ z) (sym (residual_past K.ring s N f' w' (k + a)) ∙ kept.vanishes (N + (k + a)) (omega arith)) ∙ ⊗-𝟘 K.ring (g a))
+          Σ_one K.ring (suc e) _ e (omega arith) (λ a h other. ap (λ z. g a ⊗ z) (sym (residual_past K.ring s N f' w' (k + a)) ∙ kept.vanishes (N + (k + a)) (omega arith)) ∙ ⊗_𝟘 K.ring (g a))
           ∙ ap (λ z. g e ⊗ z) (sym (residual_past K.ring s N f' w' (k + e)) ∙ kept.remains (N + (k + e)) (omega arith))
 
       from_g : e < m → conv K.ring N f' (conv K.ring (suc e) g s) k ≡ 𝟘
@@ -231,7 +231,7 @@ module _ {A : Type 0} (K : AbstractField A) (s : ℕ → A) (N : ℕ) where
           unfold conv in
           Σ_𝟘 K.ring N _ (λ b _. ⊎_elim
           (λ h. ap (λ z. z ⊗ conv K.ring (suc e) g s (k + b)) (kept.bounded.f_above b h) ∙ 𝟘_⊗ K.ring _)
-          (λ h. ap (λ z. f' b ⊗ z) (g-fits (k + b) (omega arith)) ∙ ⊗-𝟘 K.ring (f' b))
+          (λ h. ap (λ z. f' b ⊗ z) (g-fits (k + b) (omega arith)) ∙ ⊗_𝟘 K.ring (f' b))
           (cases_lt m' b))
 
       both_sums : e < m → g e ⊗ D ≡ 𝟘

@@ -22,8 +22,8 @@ use Rattle.algebra.proofs.Places.{
   places_below,
   distinct_places,
 }
-use Rattle.algebra.proofs.Ring.{CommutativeRing, AbstractField, 𝟘_⊗, ⊕-⊖}
-use Rattle.algebra.proofs.Sums.{Σ-reorder}
+use Rattle.algebra.proofs.Ring.{CommutativeRing, AbstractField, 𝟘_⊗, ⊕_⊖}
+use Rattle.algebra.proofs.Sums.{Σ_reorder}
 use Rattle.algebra.proofs.Polynomials
 use Rattle.algebra.proofs.Lengths.{times_power_element}
 use Rattle.algebra.proofs.Points
@@ -62,7 +62,7 @@ module _ (A : Arithmetic) (total : Total A) (laws : RingLaws A) where
   pub reordering : Theorems.Reordering A
   reordering n f p q elements p-below q-below q-p p-q =
       Carrier.sum_up W n _ (λ i. up (f (p i))) (λ i h. sym (Carrier.value_lift W (f (p i)) (elements (p i) (p-below i h))))
-      ∙ ap (λ z. z.0) (Σ-reorder R n (λ i. up (f i)) p q p-below q-below q-p p-q)
+      ∙ ap (λ z. z.0) (Σ_reorder R n (λ i. up (f i)) p q p-below q-below q-p p-q)
       ∙ sym (Carrier.sum_up W n f (λ i. up (f i)) (λ i h. sym (Carrier.value_lift W (f i) (elements i h))))
 
   pub word_reordering : Theorems.WordReordering A
@@ -91,7 +91,7 @@ module _ (A : Arithmetic) (total : Total A) (laws : RingLaws A) where
 
   pub annihilator_roots : Theorems.AnnihilatorRoots A
   annihilator_roots points elements x m =
-      Elements.annihilator-value W points elements x (elements x m)
+      Elements.annihilator_value W points elements x (elements x m)
       ∙ Elements.zero_value W (Polynomials.annihilator_root R (up x) (map up points) (member_map up x points m))
 
   pub cofactor_is : Theorems.CofactorIs A
@@ -156,7 +156,7 @@ module _ {m : Meaning} (laws : Laws m) where
         | inr out ↦ absurd (Points.annihilator_nonroot K (map lift points) (lift x)
             (λ mb. let (y, my, p) = member_of_map lift (lift x) points mb in
             out (member_moved (sym (Elements.lift_injective S x y hx (elements y my) p)) points my))
-            (Elements.is_zero S (sym (Elements.annihilator-value S points elements x hx) ∙ e)))
+            (Elements.is_zero S (sym (Elements.annihilator_value S points elements x hx) ∙ e)))
       ]
 
   pub distance : Theorems.Distance m
@@ -167,9 +167,9 @@ module _ {m : Meaning} (laws : Laws m) where
       (omega (
         arith,
         Elements.wt_failures laws n (λ i. lift (v i) ⊕ ⊖ lift (w i)) (λ i. eqb (v i) (w i))
-            (λ i _ e. ap (λ z. lift (v i) ⊕ ⊖ lift z) (sym (eqb-true (v i) (w i) e)) ∙ ⊕-⊖ K.ring (lift (v i))),
+            (λ i _ e. ap (λ z. lift (v i) ⊕ ⊖ lift z) (sym (eqb-true (v i) (w i) e)) ∙ ⊕_⊖ K.ring (lift (v i))),
       ))
-      (λ k hk. Elements.word-sum-lift S L M v ev k (sv k hk)) (λ k hk. Elements.word-sum-lift S L M w ew k (sw k hk)) i below)
+      (λ k hk. Elements.word_sum_lift S L M v ev k (sv k hk)) (λ k hk. Elements.word_sum_lift S L M w ew k (sw k hk)) i below)
 
 module _ {m : Meaning} (laws : Laws m) (n : ℕ) (a : ℕ → ℕ) (E : List ℕ) (L : Theorems.Locators m.arithmetic n a)
     (D : Theorems.DistinctPlaces n E) where
@@ -265,15 +265,15 @@ module _ {m : Meaning} (laws : Laws m) (n : ℕ) (a : ℕ → ℕ) (E : List ℕ
         ∙ Carrier.times_is (S laws) _ _)
         ∙ Elements.divide_is laws _ _
 
-    filling-only-at :
+    filling_only_at :
         (r : ℕ) (u v : ℕ → ℕ) → Theorems.Elements m.arithmetic n v → length E ≤ r →
         ((k : ℕ) → k < r → Theorems.word_sum m.arithmetic n a h v k ≡ 0) →
         ((j : ℕ) → j < n → (Member j E → ⊥) → u j ≡ v j) → (j : ℕ) → Member j E →
         v j ≡ Theorems.erased_letter m a h E (Theorems.noted_sum m.arithmetic n a h E u) j
-    filling-only-at r u v elements few sums same j mj =
+    filling_only_at r u v elements few sums same j mj =
         sym (Carrier.value_lift (S laws) (v j) (elements j (D.below j mj)))
         ∙ ap (λ z. z.0) (Filling.erased_letter (K laws) n locator E points multiplier r word few
-        (λ k hk. Elements.word-sum-lift (S laws) L M v elements k (sums k hk))
+        (λ k hk. Elements.word_sum_lift (S laws) L M v elements k (sums k hk))
         j mj (Elements.multipliers (S laws) M j (D.below j mj)))
         ∙ sym (erased_letter_is _ _ (Elements.noted_sum_is (S laws) L M E u word
         (λ i below out. same i below out ∙ sym (Carrier.value_lift (S laws) (v i) (elements i below)))) j mj)
@@ -281,11 +281,11 @@ module _ {m : Meaning} (laws : Laws m) (n : ℕ) (a : ℕ → ℕ) (E : List ℕ
         word : ℕ → Element
         word i = lift laws (v i)
 
-    filling-makes-at :
+    filling_makes_at :
         (u : ℕ → ℕ) → ((j : ℕ) → j < n → (Member j E → ⊥) → u j < m.arithmetic.size) → (k : ℕ) → k < length E →
         Theorems.word_sum m.arithmetic n a h (λ j. cond (member j E)
         (Theorems.erased_letter m a h E (Theorems.noted_sum m.arithmetic n a h E u) j) (u j)) k ≡ 0
-    filling-makes-at u elements k hk =
+    filling_makes_at u elements k hk =
         Elements.word_sum_is (S laws) L M _ (λ j. cond (member j E) (Filling.letter (K laws) n locator E points multiplier sums j) (word j))
         (λ j below. Elements.on_places (S laws) E j _ _ _ _
         (λ mj. erased_letter_is _ sums (Elements.noted_sum_is (S laws) L M E u word noted_word) j mj) (noted_word j below)) k
@@ -308,7 +308,7 @@ pub surjectivity : {m : Meaning} → Laws m → Theorems.Surjectivity m
 surjectivity laws n a y E L D = surjectivity_at laws n a E L D y
 
 pub filling_only : {m : Meaning} → Laws m → Theorems.FillingOnly m
-filling_only laws n r a h u v E L M elements D = filling-only-at laws n a E L D h M r u v elements
+filling_only laws n r a h u v E L M elements D = filling_only_at laws n a E L D h M r u v elements
 
 pub filling_makes : {m : Meaning} → Laws m → Theorems.FillingMakes m
-filling_makes laws n a h u E L M elements D = filling-makes-at laws n a E L D h M u elements
+filling_makes laws n a h u E L M elements D = filling_makes_at laws n a E L D h M u elements

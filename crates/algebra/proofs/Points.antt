@@ -10,16 +10,16 @@ use Rattle.algebra.proofs.Ring.{
   CommutativeRing,
   AbstractField,
   zero?,
-  ⊕-𝟘,
+  ⊕_𝟘,
   𝟘_⊕,
   𝟘_⊗,
-  ⊗-𝟙,
-  ⊗-comm,
+  ⊗_𝟙,
+  ⊗_comm,
   zero_factor,
-  ⊗-nonzero,
+  ⊗_nonzero,
   difference_nonzero,
-  ring-zeros,
-  ring-laws,
+  ring_zeros,
+  ring_laws,
 }
 use Rattle.algebra.proofs.Sums.{Σ, Σ_suc, Σ_cong, Σ_⊗, Σ_⊕, Σ_𝟘}
 use Rattle.algebra.proofs.Polynomials
@@ -88,10 +88,10 @@ module _ {A : Type 0} (K : AbstractField A) where
       ∙ Σ_⊕ R n _ _ ∙ ap (λ z. power_sum n x a (suc k) ⊕ z) (Σ_⊗ R n (⊖ b) _)
     where
       term : (x a p : A) {q : A} → q ≡ a ⊗ p → (x ⊗ (a ⊕ ⊖ b)) ⊗ p ≡ x ⊗ q ⊕ ⊖ b ⊗ (x ⊗ p)
-      term x a p e = rw e (simp ring-laws)
+      term x a p e = rw e (simp ring_laws)
 
   drops : (x a p : A) → (x ⊗ (a ⊕ ⊖ a)) ⊗ p ≡ 𝟘
-  drops x a p = simp ring-zeros
+  drops x a p = simp ring_zeros
 
   kernel_step : (n : ℕ) → Kernel n → (r : ℕ) (a x : ℕ → A) → Injective (suc n) a → (d : Dec (x n ≡ 𝟘)) → more_unless d (wt n x) ≤ r →
       ((k : ℕ) → k < r → power_sum (suc n) x a k ≡ 𝟘) → (i : ℕ) → i < suc n → x i ≡ 𝟘
@@ -100,7 +100,7 @@ module _ {A : Type 0} (K : AbstractField A) where
       elim (ℕ_discrete i n) [
         | yes p ↦ rw p e
         | no q ↦ ih r a x (λ i j hi hj. inj i j (omega arith) (omega arith)) w
-            (λ k hk. sym (Σ_suc R n _ ∙ ap (λ z. power_sum n x a k ⊕ z ⊗ pow (a n) k) e ∙ simp ring-zeros) ∙ s k hk) i (omega arith)
+            (λ k hk. sym (Σ_suc R n _ ∙ ap (λ z. power_sum n x a k ⊕ z ⊗ pow (a n) k) e ∙ simp ring_zeros) ∙ s k hk) i (omega arith)
       ]
   kernel_step n ih zero a x inj (no d) w s i h = absurd (omega arith)
   kernel_step n ih (suc r) a x inj (no d) w s i h = absurd (d last)
@@ -110,20 +110,20 @@ module _ {A : Type 0} (K : AbstractField A) where
 
       below : (k : ℕ) → k < r → power_sum n y a k ≡ 𝟘
       below k hk =
-          sym (Σ_suc R n (λ i. y i ⊗ pow (a i) k) ∙ ap (λ z. power_sum n y a k ⊕ z) (drops (x n) (a n) (pow (a n) k)) ∙ ⊕-𝟘 R _)
+          sym (Σ_suc R n (λ i. y i ⊗ pow (a i) k) ∙ ap (λ z. power_sum n y a k ⊕ z) (drops (x n) (a n) (pow (a n) k)) ∙ ⊕_𝟘 R _)
           ∙ shifted (suc n) a x (a n) k
-          ∙ simp (s (suc k) (omega arith), s k (omega arith), ring-zeros)
+          ∙ simp (s (suc k) (omega arith), s k (omega arith), ring_zeros)
 
       others : (i : ℕ) → i < n → x i ≡ 𝟘
       others i hi =
           zero_factor K (a i ⊕ ⊖ a n) (x i) (difference_nonzero K (a i) (a n)
           (λ e. let q : i ≡ n = inj i n (omega arith) (omega arith) e in omega arith))
-          (⊗-comm R _ (x i) ∙ ih r a y (λ i j hi hj. inj i j (omega arith) (omega arith))
+          (⊗_comm R _ (x i) ∙ ih r a y (λ i j hi hj. inj i j (omega arith) (omega arith))
           (omega (arith, wt_⊗ n x (λ i. a i ⊕ ⊖ a n))) below i hi)
 
       last : x n ≡ 𝟘
       last =
-          sym (ap (λ z. x n ⊗ z) (Polynomials.pow_zero R (a n)) ∙ ⊗-𝟙 R (x n)) ∙ sym (𝟘_⊕ R _)
+          sym (ap (λ z. x n ⊗ z) (Polynomials.pow_zero R (a n)) ∙ ⊗_𝟙 R (x n)) ∙ sym (𝟘_⊕ R _)
           ∙ ap (λ z. z ⊕ x n ⊗ pow (a n) 0) (sym (Σ_𝟘 R n _ (λ i hi. ap (λ z. z ⊗ pow (a i) 0) (others i hi) ∙ 𝟘_⊗ R _)))
           ∙ sym (Σ_suc R n _) ∙ s 0 (omega arith)
 
@@ -163,7 +163,7 @@ module _ {A : Type 0} (K : AbstractField A) where
   pub annihilator_nonroot : (ps : List A) (x : A) → (Member x ps → ⊥) → eval (annihilator ps) x ≡ 𝟘 → ⊥
   annihilator_nonroot [] x h e = K.one_not_zero (sym (Polynomials.eval_annihilator_[] R x) ∙ e)
   annihilator_nonroot (b ∷ ps) x h e =
-      ⊗-nonzero K (x ⊕ ⊖ b) (eval (annihilator ps) x) (difference_nonzero K x b (λ p. h (inl p)))
+      ⊗_nonzero K (x ⊕ ⊖ b) (eval (annihilator ps) x) (difference_nonzero K x b (λ p. h (inl p)))
       (annihilator_nonroot ps x (λ m. h (inr m)))
       (sym (Polynomials.eval_annihilator R b ps x) ∙ e)
 
@@ -172,10 +172,10 @@ module _ {A : Type 0} (K : AbstractField A) where
   annihilator_simple [] a d m e = m
   annihilator_simple (b ∷ ps) a d (inl p) e =
       annihilator_nonroot ps a (λ m. d.0 (member_moved p ps m))
-      (sym (Polynomials.eval-quo-annihilator R a b ps ∙ ap (λ z. eval (annihilator ps) a ⊕ (a ⊕ ⊖ z) ⊗ eval (quo a (annihilator ps)) a)
-      (sym p) ∙ simp ring-zeros) ∙ e)
+      (sym (Polynomials.eval_quo_annihilator R a b ps ∙ ap (λ z. eval (annihilator ps) a ⊕ (a ⊕ ⊖ z) ⊗ eval (quo a (annihilator ps)) a)
+      (sym p) ∙ simp ring_zeros) ∙ e)
   annihilator_simple (b ∷ ps) a d (inr m) e =
-      ⊗-nonzero K (a ⊕ ⊖ b) (eval (quo a (annihilator ps)) a) (difference_nonzero K a b (λ p. d.0 (member_moved p ps m)))
+      ⊗_nonzero K (a ⊕ ⊖ b) (eval (quo a (annihilator ps)) a) (difference_nonzero K a b (λ p. d.0 (member_moved p ps m)))
       (annihilator_simple ps a d.1 m)
-      (sym (Polynomials.eval-quo-annihilator R a b ps ∙ ap (λ z. z ⊕ (a ⊕ ⊖ b) ⊗ eval (quo a (annihilator ps)) a)
+      (sym (Polynomials.eval_quo_annihilator R a b ps ∙ ap (λ z. z ⊕ (a ⊕ ⊖ b) ⊗ eval (quo a (annihilator ps)) a)
       (Polynomials.annihilator_root R a ps m) ∙ 𝟘_⊕ R _) ∙ e)

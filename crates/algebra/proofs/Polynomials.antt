@@ -4,25 +4,25 @@ use Rattle.std.proofs.Common.{◌≡◌, ℕ, zero, suc, pred, ◌+◌, ◌<◌,
 use Rattle.algebra.specs.Places.{Member}
 use Rattle.algebra.proofs.Ring.{
   CommutativeRing,
-  ⊕-assoc,
-  ⊕-𝟘,
+  ⊕_assoc,
+  ⊕_𝟘,
   𝟘_⊕,
-  ⊗-𝟘,
+  ⊗_𝟘,
   𝟘_⊗,
-  ⊗-𝟙,
+  ⊗_𝟙,
   𝟙_⊗,
-  ⊗-⊕,
-  ⊗-comm,
-  ⊕-cross,
-  ⊗-left-comm,
-  ⊗-⊖,
-  ⊖-⊖,
-  ⊖-𝟘,
-  ⊖-of-⊕,
-  plus-sort,
-  times-sort,
-  ring-zeros,
-  ring-laws,
+  ⊗_⊕,
+  ⊗_comm,
+  ⊕_cross,
+  ⊗_left_comm,
+  ⊗_⊖,
+  ⊖_⊖,
+  ⊖_𝟘,
+  ⊖_of_⊕,
+  plus_sort,
+  times_sort,
+  ring_zeros,
+  ring_laws,
 }
 use Rattle.algebra.proofs.Sums.{Σ, Σ_zero, Σ_suc, Σ_first, Σ_cong, Σ_⊗, Σ_𝟘}
 
@@ -43,11 +43,11 @@ module _ {A : Type 0} (R : CommutativeRing A) where
 
   pub pow-suc : (a : A) (k : ℕ) → pow a (suc k) ≡ a ⊗ pow a k
   unfolding pow
-  pow-suc a k = ⊗-comm R (pow a k) a
+  pow-suc a k = ⊗_comm R (pow a k) a
 
   pub pow_+ : (a : A) (k l : ℕ) → pow a (k + l) ≡ pow a k ⊗ pow a l
-  pow_+ a k zero = simp (add-zero, pow_zero, ⊗-𝟙)
-  pow_+ a k (suc l) = simp (add-suc, pow-suc, pow_+ a k l, times-sort)
+  pow_+ a k zero = simp (add-zero, pow_zero, ⊗_𝟙)
+  pow_+ a k (suc l) = simp (add-suc, pow-suc, pow_+ a k l, times_sort)
 
   -- p(x), by Horner's rule
   unfoldable pub eval : List A → A → A
@@ -76,12 +76,12 @@ module _ {A : Type 0} (R : CommutativeRing A) where
   eval_powers zero (c ∷ p) x h = absurd (omega arith)
   eval_powers (suc n) (c ∷ p) x h =
       eval_∷ c p x
-      ∙ ap₂ ◌⊕◌ (sym (ap (λ z. c ⊗ z) (pow_zero x) ∙ ⊗-𝟙 R c))
+      ∙ ap₂ ◌⊕◌ (sym (ap (λ z. c ⊗ z) (pow_zero x) ∙ ⊗_𝟙 R c))
       (ap (λ z. x ⊗ z) (eval_powers n p x (omega arith)) ∙ sym (Σ_⊗ R n x _) ∙ Σ_cong R n _ _ (λ k _. next (coeff p k) k))
       ∙ sym (Σ_first R n (λ k. coeff (c ∷ p) k ⊗ pow x k))
     where
       next : (d : A) (k : ℕ) → x ⊗ (d ⊗ pow x k) ≡ d ⊗ pow x (suc k)
-      next d k = simp (pow-suc, times-sort)
+      next d k = simp (pow-suc, times_sort)
 
   -- the list of n given coefficients
   unfoldable pub coeffs : ℕ → (ℕ → A) → List A
@@ -114,11 +114,11 @@ module _ {A : Type 0} (R : CommutativeRing A) where
 
   pub eval_plus_linear : (c a : A) (p : List A) (x : A) → eval (plus_linear c a p) x ≡ c ⊕ (x ⊕ ⊖ a) ⊗ eval p x
   unfolding plus_linear
-  eval_plus_linear c a [] x = simp (eval_∷, eval_[], ⊗-𝟘)
+  eval_plus_linear c a [] x = simp (eval_∷, eval_[], ⊗_𝟘)
   eval_plus_linear c a (d ∷ p) x = simp (eval_∷, eval_plus_linear d a p x) (regroup c a d x (eval p x))
     where
       regroup : (c a d x e : A) → (c ⊕ ⊖ (a ⊗ d)) ⊕ x ⊗ (d ⊕ (x ⊕ ⊖ a) ⊗ e) ≡ c ⊕ (x ⊕ ⊖ a) ⊗ (d ⊕ x ⊗ e)
-      regroup c a d x e = simp ring-laws
+      regroup c a d x e = simp ring_laws
 
   -- the leading coefficient stays
   pub last_plus_linear : (c a d : A) (p : List A) → coeff (plus_linear c a (d ∷ p)) (suc (length p)) ≡ coeff (d ∷ p) (length p)
@@ -130,14 +130,14 @@ module _ {A : Type 0} (R : CommutativeRing A) where
   pub plus_linear_comm : (c d a b : A) (p : List A) → plus_linear c a (plus_linear d b p) ≡ plus_linear (c ⊕ (b ⊗ d ⊕ ⊖ (a ⊗ d))) b
       (plus_linear d a p)
   unfolding plus_linear
-  plus_linear_comm c d a b [] = ap (λ z. z ∷ d ∷ []) (sym (ap (λ z. (c ⊕ (b ⊗ d ⊕ ⊖ (a ⊗ d))) ⊕ z) (sym (⊕-𝟘 R (⊖ (b ⊗ d))))
-      ∙ ⊕-cross R c (⊖ (a ⊗ d)) (b ⊗ d) 𝟘 ∙ simp ⊕-𝟘))
+  plus_linear_comm c d a b [] = ap (λ z. z ∷ d ∷ []) (sym (ap (λ z. (c ⊕ (b ⊗ d ⊕ ⊖ (a ⊗ d))) ⊕ z) (sym (⊕_𝟘 R (⊖ (b ⊗ d))))
+      ∙ ⊕_cross R c (⊖ (a ⊗ d)) (b ⊗ d) 𝟘 ∙ simp ⊕_𝟘))
   plus_linear_comm c d a b (e ∷ p) = ap₂ ◌∷◌ constant (plus_linear_comm (d ⊕ ⊖ (b ⊗ e)) e a b p
-      ∙ ap (λ z. plus_linear z b (plus_linear e a p)) (simp (⊕-assoc, ring-zeros)))
+      ∙ ap (λ z. plus_linear z b (plus_linear e a p)) (simp (⊕_assoc, ring_zeros)))
     where
       constant : c ⊕ ⊖ (a ⊗ (d ⊕ ⊖ (b ⊗ e))) ≡ (c ⊕ (b ⊗ d ⊕ ⊖ (a ⊗ d))) ⊕ ⊖ (b ⊗ (d ⊕ ⊖ (a ⊗ e)))
-      constant = simp (⊗-⊕, ⊗-⊖, ⊖-of-⊕, ⊖-⊖) (ap (λ z. c ⊕ (⊖ (a ⊗ d) ⊕ z)) (⊗-left-comm R a b e)
-          ∙ sym (⊕-cross R c (⊖ (a ⊗ d)) (b ⊗ d) (b ⊗ (a ⊗ e))))
+      constant = simp (⊗_⊕, ⊗_⊖, ⊖_of_⊕, ⊖_⊖) (ap (λ z. c ⊕ (⊖ (a ⊗ d) ⊕ z)) (⊗_left_comm R a b e)
+          ∙ sym (⊕_cross R c (⊖ (a ⊗ d)) (b ⊗ d) (b ⊗ (a ⊗ e))))
 
   -- synthetic division by X − a: the quotient
   unfoldable pub quo : A → List A → List A
@@ -159,21 +159,21 @@ module _ {A : Type 0} (R : CommutativeRing A) where
   -- division with remainder p(a)
   pub divides : (a c : A) (p : List A) → plus_linear (eval (c ∷ p) a) a (quo a (c ∷ p)) ≡ c ∷ p
   unfolding plus_linear quo
-  divides a c [] = ap (λ z. z ∷ []) (simp (eval_∷, eval_[], ⊗-𝟘, ⊕-𝟘))
-  divides a c (d ∷ p) = ap₂ ◌∷◌ (ap (λ z. z ⊕ ⊖ (a ⊗ eval (d ∷ p) a)) (eval_∷ c (d ∷ p) a) ∙ simp (⊕-assoc, ring-zeros)) (divides a d p)
+  divides a c [] = ap (λ z. z ∷ []) (simp (eval_∷, eval_[], ⊗_𝟘, ⊕_𝟘))
+  divides a c (d ∷ p) = ap₂ ◌∷◌ (ap (λ z. z ⊕ ⊖ (a ⊗ eval (d ∷ p) a)) (eval_∷ c (d ∷ p) a) ∙ simp (⊕_assoc, ring_zeros)) (divides a d p)
 
   pub eval_quo : (a : A) (p : List A) (x : A) → eval p x ≡ eval p a ⊕ (x ⊕ ⊖ a) ⊗ eval (quo a p) x
   unfolding quo
-  eval_quo a [] x = simp (eval_[], ring-zeros)
+  eval_quo a [] x = simp (eval_[], ring_zeros)
   eval_quo a (c ∷ p) x = ap (λ q. eval q x) (sym (divides a c p)) ∙ eval_plus_linear (eval (c ∷ p) a) a (quo a (c ∷ p)) x
 
   -- where the quotient and the remainder are 0, so is the polynomial
   pub quo_zero : (a : A) (p : List A) → Zero (quo a p) → eval p a ≡ 𝟘 → Zero p
   unfolding quo
   quo_zero a [] z e k = refl
-  quo_zero a (c ∷ []) z e zero = sym (simp (eval_∷, eval_[], ⊗-𝟘, ⊕-𝟘)) ∙ e
+  quo_zero a (c ∷ []) z e zero = sym (simp (eval_∷, eval_[], ⊗_𝟘, ⊕_𝟘)) ∙ e
   quo_zero a (c ∷ []) z e (suc k) = refl
-  quo_zero a (c ∷ d ∷ p) z e zero = sym (eval_∷ c (d ∷ p) a ∙ ap (λ w. c ⊕ a ⊗ w) (z 0) ∙ simp ring-zeros) ∙ e
+  quo_zero a (c ∷ d ∷ p) z e zero = sym (eval_∷ c (d ∷ p) a ∙ ap (λ w. c ⊕ a ⊗ w) (z 0) ∙ simp ring_zeros) ∙ e
   quo_zero a (c ∷ d ∷ p) z e (suc k) = quo_zero a (d ∷ p) (λ j. z (suc j)) (z 0) k
 
   -- the quotient of what was multiplied
@@ -182,7 +182,7 @@ module _ {A : Type 0} (R : CommutativeRing A) where
   quo_plus_linear c a [] = unfold quo in refl
   quo_plus_linear c a (d ∷ p) =
       quo_∷ a _ (plus_linear d a p) (simp length_plus_linear (omega arith))
-      ∙ ap₂ ◌∷◌ (eval_plus_linear d a p a ∙ simp ring-zeros) (quo_plus_linear d a p)
+      ∙ ap₂ ◌∷◌ (eval_plus_linear d a p a ∙ simp ring_zeros) (quo_plus_linear d a p)
 
   -- the monic polynomial that is 0 at the given points: the product of all X − a
   unfoldable pub annihilator : List A → List A
@@ -196,7 +196,7 @@ module _ {A : Type 0} (R : CommutativeRing A) where
 
   pub eval_annihilator_[] : (x : A) → eval (annihilator []) x ≡ 𝟙
   unfolding annihilator
-  eval_annihilator_[] x = simp (eval_∷, eval_[], ⊗-𝟘, ⊕-𝟘)
+  eval_annihilator_[] x = simp (eval_∷, eval_[], ⊗_𝟘, ⊕_𝟘)
 
   pub eval_annihilator : (a : A) (ps : List A) (x : A) → eval (annihilator (a ∷ ps)) x ≡ (x ⊕ ⊖ a) ⊗ eval (annihilator ps) x
   unfolding annihilator
@@ -215,8 +215,8 @@ module _ {A : Type 0} (R : CommutativeRing A) where
   -- it is 0 at each of its points
   pub annihilator_root : (a : A) (ps : List A) → Member a ps → eval (annihilator ps) a ≡ 𝟘
   annihilator_root a [] h = absurd h
-  annihilator_root a (b ∷ ps) (inl e) = eval_annihilator b ps a ∙ ap (λ z. (a ⊕ ⊖ z) ⊗ eval (annihilator ps) a) (sym e) ∙ simp ring-zeros
-  annihilator_root a (b ∷ ps) (inr h) = eval_annihilator b ps a ∙ simp (annihilator_root a ps h, ⊗-𝟘)
+  annihilator_root a (b ∷ ps) (inl e) = eval_annihilator b ps a ∙ ap (λ z. (a ⊕ ⊖ z) ⊗ eval (annihilator ps) a) (sym e) ∙ simp ring_zeros
+  annihilator_root a (b ∷ ps) (inr h) = eval_annihilator b ps a ∙ simp (annihilator_root a ps h, ⊗_𝟘)
 
   -- the quotient by X − a of a product with X − b
   pub quo_times_linear : (a b c : A) (p : List A) → quo a (linear_product b (c ∷ p)) ≡ plus_linear (eval (c ∷ p) a) b (quo a (c ∷ p))
@@ -227,14 +227,14 @@ module _ {A : Type 0} (R : CommutativeRing A) where
 
   -- and its value at a, which is the product rule for derivatives
   pub eval_quo_times_linear : (a b : A) (p : List A) → eval (quo a (linear_product b p)) a ≡ eval p a ⊕ (a ⊕ ⊖ b) ⊗ eval (quo a p) a
-  eval_quo_times_linear a b [] = unfold plus_linear quo in simp (eval_[], ring-zeros)
+  eval_quo_times_linear a b [] = unfold plus_linear quo in simp (eval_[], ring_zeros)
   eval_quo_times_linear a b (c ∷ p) = ap (λ q. eval q a) (quo_times_linear a b c p) ∙ eval_plus_linear (eval (c ∷ p) a) b (quo a (c ∷ p)) a
 
-  pub eval-quo-annihilator :
+  pub eval_quo_annihilator :
       (a b : A) (ps : List A) →
       eval (quo a (annihilator (b ∷ ps))) a ≡ eval (annihilator ps) a ⊕ (a ⊕ ⊖ b) ⊗ eval (quo a (annihilator ps)) a
   unfolding annihilator
-  eval-quo-annihilator a b ps = eval_quo_times_linear a b (annihilator ps)
+  eval_quo_annihilator a b ps = eval_quo_times_linear a b (annihilator ps)
 
   pub annihilator_∷ : (a : A) (ps : List A) → annihilator (a ∷ ps) ≡ linear_product a (annihilator ps)
   unfolding annihilator
@@ -281,19 +281,19 @@ module _ {A : Type 0} (R : CommutativeRing A) where
     where
       zeros : (p : List A) (k : ℕ) → act p (λ _. 𝟘) k ≡ 𝟘
       zeros [] k = act_[] _ k
-      zeros (c ∷ p) k = simp (act_∷, zeros p (suc k), ring-zeros)
+      zeros (c ∷ p) k = simp (act_∷, zeros p (suc k), ring_zeros)
 
   pub act_⊕ : (p : List A) (s t : ℕ → A) (k : ℕ) → act p (λ i. s i ⊕ t i) k ≡ act p s k ⊕ act p t k
-  act_⊕ [] s t k = simp (act_[], ⊕-𝟘)
-  act_⊕ (c ∷ p) s t k = simp (act_∷, act_⊕ p s t (suc k), ⊗-⊕, plus-sort)
+  act_⊕ [] s t k = simp (act_[], ⊕_𝟘)
+  act_⊕ (c ∷ p) s t k = simp (act_∷, act_⊕ p s t (suc k), ⊗_⊕, plus_sort)
 
   pub act_⊗ : (p : List A) (a : A) (s : ℕ → A) (k : ℕ) → act p (λ i. a ⊗ s i) k ≡ a ⊗ act p s k
-  act_⊗ [] a s k = simp (act_[], ⊗-𝟘)
-  act_⊗ (c ∷ p) a s k = simp (act_∷, act_⊗ p a s (suc k), ⊗-⊕, times-sort)
+  act_⊗ [] a s k = simp (act_[], ⊗_𝟘)
+  act_⊗ (c ∷ p) a s k = simp (act_∷, act_⊗ p a s (suc k), ⊗_⊕, times_sort)
 
   pub act_⊖ : (p : List A) (s : ℕ → A) (k : ℕ) → act p (λ i. ⊖ s i) k ≡ ⊖ act p s k
-  act_⊖ [] s k = simp (act_[], ⊖-𝟘)
-  act_⊖ (c ∷ p) s k = simp (act_∷, act_⊖ p s (suc k), ⊗-⊖, ⊖-of-⊕)
+  act_⊖ [] s k = simp (act_[], ⊖_𝟘)
+  act_⊖ (c ∷ p) s k = simp (act_∷, act_⊖ p s (suc k), ⊗_⊖, ⊖_of_⊕)
 
   pub act_Σ : (p : List A) (n : ℕ) (f : ℕ → ℕ → A) (k : ℕ) → act p (λ i. Σ R n (λ j. f j i)) k ≡ Σ R n (λ j. act p (f j) k)
   act_Σ p zero f k = act_𝟘 p _ k (λ i _. Σ_zero R _) ∙ sym (Σ_zero R _)
@@ -302,8 +302,8 @@ module _ {A : Type 0} (R : CommutativeRing A) where
 
   -- on the powers of a, p acts as the factor p(a)
   pub act_powers : (p : List A) (x a : A) (k : ℕ) → act p (λ i. x ⊗ pow a i) k ≡ x ⊗ (pow a k ⊗ eval p a)
-  act_powers [] x a k = simp (act_[], eval_[], ⊗-𝟘)
-  act_powers (c ∷ p) x a k = simp (act_∷, eval_∷, act_powers p x a (suc k), pow-suc, ⊗-⊕, times-sort)
+  act_powers [] x a k = simp (act_[], eval_[], ⊗_𝟘)
+  act_powers (c ∷ p) x a k = simp (act_∷, eval_∷, act_powers p x a (suc k), pow-suc, ⊗_⊕, times_sort)
 
   pub act_powers_first : (p : List A) (x a : A) → act p (λ i. x ⊗ pow a i) 0 ≡ x ⊗ eval p a
   act_powers_first p x a = act_powers p x a 0 ∙ simp (pow_zero, 𝟙_⊗)

@@ -1,7 +1,7 @@
 -- Finite sums in a commutative ring. Assumes nothing.
 use Rattle.std.proofs.Common.{◌≡◌, ℕ, zero, suc, ◌+◌, ◌<◌, sym, refl, ap, ◌∙◌, add-zero, add-suc, arith}
 use native.Mathlib.Decide.{ℕ_discrete}
-use Rattle.algebra.proofs.Ring.{CommutativeRing, ⊕-assoc, ⊕-𝟘, 𝟘_⊕, ⊗-𝟘, 𝟘_⊗, 𝟙_⊗, ⊗-⊕, ⊗-comm, ⊖-of-⊕, plus-sort, ring-zeros}
+use Rattle.algebra.proofs.Ring.{CommutativeRing, ⊕_assoc, ⊕_𝟘, 𝟘_⊕, ⊗_𝟘, 𝟘_⊗, 𝟙_⊗, ⊗_⊕, ⊗_comm, ⊖_of_⊕, plus_sort, ring_zeros}
 
 module _ {A : Type 0} (R : CommutativeRing A) where
   open R use {𝟘, 𝟙, ◌⊕◌, ◌⊗◌, ⊖◌}
@@ -29,18 +29,18 @@ module _ {A : Type 0} (R : CommutativeRing A) where
 
   pub Σ_𝟘 : (n : ℕ) (f : ℕ → A) → ((i : ℕ) → i < n → f i ≡ 𝟘) → Σ n f ≡ 𝟘
   Σ_𝟘 zero f e = Σ_zero f
-  Σ_𝟘 (suc n) f e = simp (Σ_suc, Σ_𝟘 n f (λ i h. e i (omega arith)), e n (omega arith), ⊕-𝟘)
+  Σ_𝟘 (suc n) f e = simp (Σ_suc, Σ_𝟘 n f (λ i h. e i (omega arith)), e n (omega arith), ⊕_𝟘)
 
   pub Σ_⊕ : (n : ℕ) (f g : ℕ → A) → Σ n (λ i. f i ⊕ g i) ≡ Σ n f ⊕ Σ n g
-  Σ_⊕ zero f g = simp (Σ_zero, ⊕-𝟘)
-  Σ_⊕ (suc n) f g = simp (Σ_suc, Σ_⊕ n f g, plus-sort)
+  Σ_⊕ zero f g = simp (Σ_zero, ⊕_𝟘)
+  Σ_⊕ (suc n) f g = simp (Σ_suc, Σ_⊕ n f g, plus_sort)
 
   pub Σ_⊗ : (n : ℕ) (a : A) (f : ℕ → A) → Σ n (λ i. a ⊗ f i) ≡ a ⊗ Σ n f
-  Σ_⊗ zero a f = simp (Σ_zero, ⊗-𝟘)
-  Σ_⊗ (suc n) a f = simp (Σ_suc, Σ_⊗ n a f, ⊗-⊕)
+  Σ_⊗ zero a f = simp (Σ_zero, ⊗_𝟘)
+  Σ_⊗ (suc n) a f = simp (Σ_suc, Σ_⊗ n a f, ⊗_⊕)
 
   pub Σ_⊗_right : (n : ℕ) (a : A) (f : ℕ → A) → Σ n (λ i. f i ⊗ a) ≡ Σ n f ⊗ a
-  Σ_⊗_right n a f = Σ_cong n _ _ (λ i _. ⊗-comm R (f i) a) ∙ Σ_⊗ n a f ∙ ⊗-comm R a (Σ n f)
+  Σ_⊗_right n a f = Σ_cong n _ _ (λ i _. ⊗_comm R (f i) a) ∙ Σ_⊗ n a f ∙ ⊗_comm R a (Σ n f)
 
   -- two sums may be exchanged
   pub Σ_swap : (n m : ℕ) (f : ℕ → ℕ → A) → Σ n (λ i. Σ m (f i)) ≡ Σ m (λ j. Σ n (λ i. f i j))
@@ -54,21 +54,21 @@ module _ {A : Type 0} (R : CommutativeRing A) where
     where
       last_or_below : Dec (n ≡ j) → (j < n → Σ n f ≡ f j) → Σ n f ⊕ f n ≡ f j
       last_or_below (yes p) _ = simp (Σ_𝟘 n f (λ i below. e i (omega arith) (λ q. omega arith)), 𝟘_⊕) (ap f p)
-      last_or_below (no q) ih = simp (e n (omega arith) q, ⊕-𝟘) (ih (omega arith))
+      last_or_below (no q) ih = simp (e n (omega arith) q, ⊕_𝟘) (ih (omega arith))
 
   -- the first n terms and the m after them
   pub Σ_split : (n m : ℕ) (f : ℕ → A) → Σ (n + m) f ≡ Σ n f ⊕ Σ m (λ i. f (n + i))
-  Σ_split n zero f = simp (add-zero, Σ_zero, ⊕-𝟘)
-  Σ_split n (suc m) f = simp (add-suc, Σ_suc, Σ_split n m f, ⊕-assoc)
+  Σ_split n zero f = simp (add-zero, Σ_zero, ⊕_𝟘)
+  Σ_split n (suc m) f = simp (add-suc, Σ_suc, Σ_split n m f, ⊕_assoc)
 
   -- the first term and the others
   pub Σ_first : (n : ℕ) (f : ℕ → A) → Σ (suc n) f ≡ f 0 ⊕ Σ n (λ i. f (suc i))
-  Σ_first zero f = Σ_suc 0 f ∙ simp (Σ_zero, plus-sort)
-  Σ_first (suc n) f = Σ_suc (suc n) f ∙ simp (Σ_first n f, Σ_suc n (λ i. f (suc i)), ⊕-assoc)
+  Σ_first zero f = Σ_suc 0 f ∙ simp (Σ_zero, plus_sort)
+  Σ_first (suc n) f = Σ_suc (suc n) f ∙ simp (Σ_first n f, Σ_suc n (λ i. f (suc i)), ⊕_assoc)
 
   pub Σ_⊖ : (n : ℕ) (f : ℕ → A) → Σ n (λ i. ⊖ f i) ≡ ⊖ Σ n f
-  Σ_⊖ zero f = simp (Σ_zero, ring-zeros)
-  Σ_⊖ (suc n) f = simp (Σ_suc, Σ_⊖ n f, ⊖-of-⊕)
+  Σ_⊖ zero f = simp (Σ_zero, ring_zeros)
+  Σ_⊖ (suc n) f = simp (Σ_suc, Σ_⊖ n f, ⊖_of_⊕)
 
   -- x where the decision is yes, 0 otherwise
   pub keep : {P : Type 0} → Dec P → A → A
@@ -92,10 +92,10 @@ module _ {A : Type 0} (R : CommutativeRing A) where
       ∙ ap (λ z. z ⊗ f k) (keep_yes (ℕ_discrete k k) 𝟙 refl) ∙ 𝟙_⊗ R _
 
   -- a permutation p of the places below n, with inverse q, does not change the sum
-  pub Σ-reorder :
+  pub Σ_reorder :
       (n : ℕ) (f : ℕ → A) (p q : ℕ → ℕ) → ((i : ℕ) → i < n → p i < n) → ((i : ℕ) → i < n → q i < n) →
       ((i : ℕ) → i < n → q (p i) ≡ i) → ((i : ℕ) → i < n → p (q i) ≡ i) → Σ n (λ i. f (p i)) ≡ Σ n f
-  Σ-reorder n f p q p-below q-below q-p p-q =
+  Σ_reorder n f p q p-below q-below q-p p-q =
       Σ_cong n _ _ (λ i h. sym (Σ_one n (λ j. term i j) (p i) (p-below i h) (λ j k. keep_no (ℕ_discrete j (p i)) (f j))
       ∙ keep_yes (ℕ_discrete (p i) (p i)) _ refl))
       ∙ Σ_swap n n term

@@ -6,7 +6,7 @@ use Rattle.algebra.specs.Meaning.{Arithmetic}
 use Rattle.algebra.specs.Polynomial.{negate}
 use Rattle.algebra.specs.Power.{times_power}
 use Rattle.algebra.proofs.Carrier.{Lawful, ring, plus_negate}
-use Rattle.algebra.proofs.Ring.{⊖-⊗}
+use Rattle.algebra.proofs.Ring.{⊖_⊗}
 use Rattle.algebra.proofs.Lengths.{times_power_element}
 use Rattle.codes.specs.Code.{Code}
 use Rattle.codes.specs.Cells.{blank_cell, noted_cell}
@@ -24,7 +24,7 @@ get_d_set cells j i c x within here there =
 module _ {A : Arithmetic} (W : Lawful A) where
   negate_times : (x a : ℕ) → x < A.size → a < A.size → A.times (negate A x) a ≡ negate A (A.times x a)
   unfolding ring
-  negate_times x a hx ha = ap (λ z. z.0) (⊖-⊗ (ring W) (x, hx) (a, ha))
+  negate_times x a hx ha = ap (λ z. z.0) (⊖_⊗ (ring W) (x, hx) (a, ha))
 
   pub times_power_negate : (x a k : ℕ) → x < A.size → a < A.size → times_power A (negate A x) a k ≡ negate A (times_power A x a k)
   times_power_negate x a zero hx ha = refl

@@ -9,7 +9,7 @@ use Rattle.codes.specs.declared.cell.Cell.{Cell}
 use Rattle.filling.specs.CodeExamples.{modulo_seven, small_code}
 use Rattle.examples.specs.Outcomes.{Shows, Refuses, SumsTo, EncodesTo, RealisesTo}
 
--- The first card is modulo 7, with seven letters, four rows, locators 0 to 5 and multipliers 1: `small-code`.
+-- The first card is modulo 7, with seven letters, four rows, locators 0 to 5 and multipliers 1: `small_code`.
 
 -- The second is modulo X³ + X + 1, with two rows, locators 1 to 7 and multipliers equal to them, and with eight letters or two.
 abbrev pub modulo_eleven : Meaning

@@ -6,7 +6,7 @@ use Rattle.std.proofs.lemmas.Bool.{cases_lt}
 use Rattle.fields.specs.CarrylessProduct.{◌⊗◌}
 use Rattle.fields.specs.LongDivision.{Degree, remainder}
 use Rattle.fields.specs.Irreducible.{Irreducible}
-use Rattle.fields.specs.PolynomialRing.{xor-laws, zero_product, one_product, product_zero, product_x, product_comm, product_assoc, xor_product}
+use Rattle.fields.specs.PolynomialRing.{xor_laws, zero_product, one_product, product_zero, product_x, product_comm, product_assoc, xor_product}
 use Rattle.fields.specs.PolynomialDegrees.{has_degree, degree_ge, degree_lt, degree_below, degree_product}
 use Rattle.fields.specs.PolynomialDivision.{xor_zero}
 use Rattle.fields.specs.PolynomialRemainders.{remainder_small, remainder_modulus, remainder_xor, remainder_product}
@@ -132,7 +132,7 @@ module _ (f k a : ℕ) (deg : Degree f k) (irr : Irreducible f) (positive : 0 < 
       )
         where
           back : (x y : ℕ) → x ≡ bit_xor (bit_xor x y) y
-          back x y = simp xor-laws
+          back x y = simp xor_laws
 
       pub euclid_cancel : (v ≡ 1 → ⊥) → Euclid f k a (bit_xor u (v * 2 ^ (i - j))) v (bit_xor g (h * 2 ^ (i - j))) h
       euclid_cancel no_one = record {

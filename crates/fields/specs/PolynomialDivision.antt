@@ -8,7 +8,7 @@ use Rattle.std.proofs.Math.Arith.{half_le, le-zero}
 use Rattle.std.proofs.lemmas.Bool.{cond_both, ltb-true, ltb-false}
 use Rattle.fields.specs.CarrylessProduct.{◌⊗◌}
 use Rattle.fields.specs.LongDivision.{Degree, Remainder, bring_down, divide_bits, remainder}
-use Rattle.fields.specs.PolynomialRing.{xor-laws, xor_cancel, xor_double, low_and_rest, zero_product, one_product, double_product, xor_product}
+use Rattle.fields.specs.PolynomialRing.{xor_laws, xor_cancel, xor_double, low_and_rest, zero_product, one_product, double_product, xor_product}
 use Rattle.fields.specs.PolynomialDegrees.{has_degree, degree_ge, degree_from, degree_product, below_from}
 
 -- a sum of two polynomials of degree k has a lower degree
@@ -16,10 +16,10 @@ pub xor_lower : (f y k : ℕ) → Degree f k → Degree y k → bit_xor y f < 2 
 xor_lower f y k d e = below_from (bit_xor y f) k (xor_shr y f k ∙ ap₂ bit_xor e d)
 
 rotate : (c p r : ℕ) → bit_xor c (bit_xor p r) ≡ bit_xor p (bit_xor r c)
-rotate c p r = simp xor-laws
+rotate c p r = simp xor_laws
 
 both_changed : (p y f : ℕ) → bit_xor p y ≡ bit_xor (bit_xor p f) (bit_xor y f)
-both_changed p y f = simp xor-laws
+both_changed p y f = simp xor_laws
 
 -- one step of long division
 bring_down_divides : (f k a r : ℕ) → Degree f k → Remainder f k (a / 2) r → Remainder f k a (bring_down f k r (a % 2))
@@ -46,10 +46,10 @@ across : (p q s r : ℕ) → bit_xor p s ≡ bit_xor q r → bit_xor p q ≡ bit
 across p q s r e = left p q s ∙ ap (λ (x : ℕ). bit_xor x (bit_xor s q)) e ∙ right q r s
   where
     left : (p q s : ℕ) → bit_xor p q ≡ bit_xor (bit_xor p s) (bit_xor s q)
-    left p q s = simp xor-laws
+    left p q s = simp xor_laws
 
     right : (q r s : ℕ) → bit_xor (bit_xor q r) (bit_xor s q) ≡ bit_xor s r
-    right q r s = simp xor-laws
+    right q r s = simp xor_laws
 
 bits_divide : (n f k a : ℕ) → Degree f k → a ≤ n → Remainder f k a (divide_bits f k n a)
 bits_divide zero f k a d h = record { quotient = 0; divides = le-zero h ∙ ap (λ (x : ℕ). bit_xor x 0) (sym (zero_product f)); small = pow_pos k }

@@ -5,7 +5,7 @@ use Rattle.std.specs.Int.Bits.{xor_zero_r, xor_assoc}
 use Rattle.std.proofs.lemmas.Nat.{xor_lt, xor_comm}
 use Rattle.fields.specs.CarrylessProduct.{◌⊗◌}
 use Rattle.fields.specs.LongDivision.{Degree, Remainder, remainder}
-use Rattle.fields.specs.PolynomialRing.{xor-laws, interchange, zero_product, one_product, xor_product, product_assoc, product_comm, product_x, product_step, digit}
+use Rattle.fields.specs.PolynomialRing.{xor_laws, interchange, zero_product, one_product, xor_product, product_assoc, product_comm, product_x, product_step, digit}
 use Rattle.fields.specs.PolynomialDivision.{xor_lower, remainder_divides, remainder_unique}
 
 module _ (f k : ℕ) (d : Degree f k) where
@@ -43,7 +43,7 @@ module _ (f k : ℕ) (d : Degree f k) where
       ∙ remainder_small (bit_xor a f) (xor_lower f a k d h)
     where
       shown : (a f : ℕ) → a ≡ bit_xor f (bit_xor a f)
-      shown a f = simp xor-laws
+      shown a f = simp xor_laws
 
   pub remainder_add : (a b : ℕ) → rem (bit_xor (rem a) b) ≡ rem (bit_xor a b)
   remainder_add a b =

@@ -13,10 +13,10 @@ xor_left_comm a b c = sym (xor_assoc a b c) ∙ ap (λ (x : ℕ). bit_xor x c) (
 pub xor_cancel : (a b : ℕ) → bit_xor a (bit_xor a b) ≡ b
 xor_cancel a b = sym (xor_assoc a a b) ∙ ap (λ (x : ℕ). bit_xor x b) (xor_self a)
 
-pub ruleset xor-laws = (xor_assoc, xor_comm, xor_left_comm, xor_self, xor_cancel, xor_zero_r)
+pub ruleset xor_laws = (xor_assoc, xor_comm, xor_left_comm, xor_self, xor_cancel, xor_zero_r)
 
 pub interchange : (x y z w : ℕ) → bit_xor (bit_xor x y) (bit_xor z w) ≡ bit_xor (bit_xor x z) (bit_xor y w)
-interchange x y z w = simp xor-laws
+interchange x y z w = simp xor_laws
 
 pub xor_double : (a b : ℕ) → bit_xor (a * 2) (b * 2) ≡ bit_xor a b * 2
 xor_double a b =

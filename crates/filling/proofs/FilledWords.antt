@@ -76,11 +76,11 @@ by_letter (Some z) b x y e p = sym (cond-false b _ _ e)
 
 noted_is : (o : Option ℕ) (x : ℕ) → (is_some o ≡ false → ⊥) → IfNoted x o → unwrap_or o 0 ≡ x
 noted_is None x noted agrees = absurd (noted refl)
-noted_is (Some letter) x noted agrees = agrees
+noted_is (Some z) x noted agrees = agrees
 
 noted_below : (o : Option ℕ) (size : ℕ) → (is_some o ≡ false → ⊥) → BelowIfNoted size o → unwrap_or o 0 < size
 noted_below None size noted below = absurd (noted refl)
-noted_below (Some letter) size noted below = below
+noted_below (Some z) size noted below = below
 
 module _ {m : Meaning} {code : Code} (checked : Checked m code) (cells : List Cell) (long : length cells ≡ length code.locators) where
   abbrev A : Arithmetic

@@ -56,7 +56,7 @@ punched_row = record {
   };
 }
 
-pub ruleset all-rows = (engraved_row, inked_row, punched_row)
+pub ruleset all_rows = (engraved_row, inked_row, punched_row)
 
 -- every house row is of one of the two kinds
 pub house_row_kinds : (n : ℕ) → IsHouseNumber n → ((house_row n).kind ≡ prime_kind → PrimeRow (house_row n)) × (((house_row n).kind ≡ prime_kind → ⊥) → BinaryRow (house_row n))

@@ -8,7 +8,7 @@ use Rattle.algebra.specs.Limits.{longest_sequence, coefficients}
 use Rattle.algebra.specs.Meaning.{Arithmetic, Meaning}
 use Rattle.algebra.specs.Laws.{Laws}
 use Rattle.algebra.specs.Realisation.{Minimal}
-use Rattle.algebra.proofs.Ring.{CommutativeRing, ring-zeros}
+use Rattle.algebra.proofs.Ring.{CommutativeRing, ring_zeros}
 use Rattle.algebra.proofs.Carrier.{Element, element_path, Lawful, lawful, ring, lift, value_lift, one_is, minus_is, negate_is, field}
 use Rattle.algebra.proofs.Elements.{is_zero, zero_value}
 use Rattle.algebra.proofs.Convolutions.{conv, shift, shift_below, shift_from, difference}
@@ -54,7 +54,7 @@ module _ {meaning : Meaning} (laws : Laws meaning) where
       (λ below. subst⁻¹ (λ (x : ℕ). x < A.size) (coeff_up_to k f j small below) (h j)) (cases_lt k j)
 
   less_nothing : (x y : Element A) → x ≡ x ⊕ ⊖ (y ⊗ 𝟘)
-  less_nothing x y = sym (simp ring-zeros)
+  less_nothing x y = sym (simp ring_zeros)
 
   -- a combination of polynomials is the abstract one
   module _ (a : ℕ) (p : Poly) (b d : ℕ) (q : Poly) (k : ℕ) (small : k < coefficients) where

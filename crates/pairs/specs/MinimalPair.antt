@@ -85,11 +85,11 @@ realise_number NoElement = 17
 -- The pair after the whole sequence stands in the buffers, and its degree is the answer. A wrong length is refused
 -- first, then a number that is no element; both leave the buffers as they were.
 abbrev pub Realised : Arithmetic → List ℕ → List ℕ → List ℕ → List ℕ → List ℕ → Result ℕ RealiseRefusal → Type 0
-Realised A s f w f-after w-after (Ok m) =
+Realised A s f w f_after w_after (Ok m) =
     Lengths s f w × OfElements A s
-    × (m ≡ (state_after A s (length s)).degree) × (f-after ≡ (state_after A s (length s)).pair.f.coeffs) × (w-after ≡ (state_after A s (length s)).pair.w.coeffs)
-Realised A s f w f-after w-after (Err WrongLength) = (Lengths s f w → ⊥) × (f-after ≡ f) × (w-after ≡ w)
-Realised A s f w f-after w-after (Err NoElement) = Lengths s f w × (OfElements A s → ⊥) × (f-after ≡ f) × (w-after ≡ w)
+    × (m ≡ (state_after A s (length s)).degree) × (f_after ≡ (state_after A s (length s)).pair.f.coeffs) × (w_after ≡ (state_after A s (length s)).pair.w.coeffs)
+Realised A s f w f_after w_after (Err WrongLength) = (Lengths s f w → ⊥) × (f_after ≡ f) × (w_after ≡ w)
+Realised A s f w f_after w_after (Err NoElement) = Lengths s f w × (OfElements A s → ⊥) × (f_after ≡ f) × (w_after ≡ w)
 
 -- what the answer is over a lawful field
 abbrev pub MinimalAnswer : Arithmetic → List ℕ → List ℕ → List ℕ → Result ℕ RealiseRefusal → Type 0

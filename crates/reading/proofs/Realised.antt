@@ -30,7 +30,7 @@ module _ {m : Meaning} {code : Code} (checked : Checked m code) (cells : List Ce
   minimal_pair =
       minimal_after checked.laws T (modified_elements A code cells checked.laws.total) (omega (arith, length_modified A code cells, checked.shape.most_rows))
 
-  module _ (s f w f-after w-after : List ℕ) (is : s ≡ T) (f_places : length f ≡ coefficients) (w_places : length w ≡ coefficients) where
+  module _ (s f w f_after w_after : List ℕ) (is : s ≡ T) (f_places : length f ≡ coefficients) (w_places : length w ≡ coefficients) where
     lengths : Lengths s f w
     lengths = record {
       sequence_short = omega (arith, ap length is, length_modified A code cells, checked.shape.most_rows);
@@ -41,17 +41,17 @@ module _ {m : Meaning} {code : Code} (checked : Checked m code) (cells : List Ce
     elements : OfElements A s
     elements = subst (OfElements A) (sym is) (modified_elements A code cells checked.laws.total)
 
-    pub realised_ok : (r : Result ℕ RealiseRefusal) → Realised A s f w f-after w-after r → is_ok r ≡ true
+    pub realised_ok : (r : Result ℕ RealiseRefusal) → Realised A s f w f_after w_after r → is_ok r ≡ true
     realised_ok (Ok d) realised = refl
     realised_ok (Err WrongLength) realised = absurd (realised.0 lengths)
     realised_ok (Err NoElement) realised = absurd (realised.1 elements)
 
-    pub realised_locates : (d : ℕ) → Realised A s f w f-after w-after (Ok d) → Locates A code cells d f-after
+    pub realised_locates : (d : ℕ) → Realised A s f w f_after w_after (Ok d) → Locates A code cells d f_after
     realised_locates d realised =
-        let realised-T = subst (λ (s : List ℕ). Realised A s f w f-after w-after (Ok d)) is realised in
+        let realised-T = subst (λ (s : List ℕ). Realised A s f w f_after w_after (Ok d)) is realised in
         let last = state_after A T (length T) in (
-          w-after,
-          subst (λ (d : ℕ). Minimal A T d f-after w-after) (sym realised-T.2)
-              (subst (λ (f : List ℕ). Minimal A T last.degree f w-after) (sym realised-T.3)
+          w_after,
+          subst (λ (d : ℕ). Minimal A T d f_after w_after) (sym realised-T.2)
+              (subst (λ (f : List ℕ). Minimal A T last.degree f w_after) (sym realised-T.3)
               (subst (λ (w : List ℕ). Minimal A T last.degree last.pair.f.coeffs w) (sym realised-T.4) minimal_pair)),
         )

@@ -47,7 +47,7 @@ abbrev pub OneReading : Type 0
 OneReading =
     (m : Meaning) (code : Code) → Checked m code → (cells : List Cell) → length cells ≡ length code.locators → Lettered code.letters cells → (before : List ℕ) →
     (after : List ℕ) × (answer : Result Counts ReadRefusal) × Reading m.arithmetic code cells before after answer
-    × ((other_After : List ℕ) (other : Result Counts ReadRefusal) → Reading m.arithmetic code cells before other_After other → (other_After ≡ after) × (other ≡ answer))
+    × ((other_after : List ℕ) (other : Result Counts ReadRefusal) → Reading m.arithmetic code cells before other_after other → (other_after ≡ after) × (other ≡ answer))
 
 abbrev pub read_number : ReadRefusal → ℕ
 read_number WrongLength = 25

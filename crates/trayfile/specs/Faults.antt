@@ -19,17 +19,17 @@ fault_at place cause = record { place = place; layer = File cause }
 
 -- A number that is not there: cut off counts at the record, a bad number at its own first byte.
 abbrev pub number_fault : ℕ → ℕ → NumberCause → Fault
-number_fault record-place number-place number.CutOff = fault_at record-place CutOff
-number_fault record-place number-place number.BadNumber = fault_at number-place BadNumber
+number_fault record_place number_place number.CutOff = fault_at record_place CutOff
+number_fault record_place number_place number.BadNumber = fault_at number_place BadNumber
 
 -- A body that is refused: a bad number counts at its own first byte, all else at the record.
 abbrev pub body_fault : ℕ → ℕ → BodyFault → Fault
-body_fault record-place body_place (body.BadNumber offset) = fault_at (body_place + offset) BadNumber
-body_fault record-place body_place body.BadBody = fault_at record-place BadBody
-body_fault record-place body_place body.BadNote = fault_at record-place BadNote
-body_fault record-place body_place (body.Field cause) = record { place = record-place; layer = Field cause }
-body_fault record-place body_place (body.Card cause) = record { place = record-place; layer = Card cause }
-body_fault record-place body_place (body.Tag cause) = record { place = record-place; layer = Tag cause }
+body_fault record_place body_place (body.BadNumber offset) = fault_at (body_place + offset) BadNumber
+body_fault record_place body_place body.BadBody = fault_at record_place BadBody
+body_fault record_place body_place body.BadNote = fault_at record_place BadNote
+body_fault record_place body_place (body.Field cause) = record { place = record_place; layer = Field cause }
+body_fault record_place body_place (body.Card cause) = record { place = record_place; layer = Card cause }
+body_fault record_place body_place (body.Tag cause) = record { place = record_place; layer = Tag cause }
 
 -- the place of a bad number is a number of the machine
 abbrev pub BodyPlaceFits : ℕ → BodyFault → Type 0

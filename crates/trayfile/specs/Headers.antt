@@ -82,6 +82,6 @@ HeaderRead turn place bytes (Err fault) = HeaderRefused turn place bytes fault
 
 -- the number that stands first, or the fault that it makes in its record
 abbrev pub NumberAt : List ℕ → ℕ → ℕ → Result NumberRead Fault → Type 0
-NumberAt bytes start record-place (Ok read) = StandsFirst read.value bytes × (read.end ≡ start + length (number_bytes read.value))
-NumberAt bytes start record-place (Err fault) =
-    (cause : NumberCause) × NumberRefused bytes cause × (fault ≡ number_fault record-place start cause)
+NumberAt bytes start record_place (Ok read) = StandsFirst read.value bytes × (read.end ≡ start + length (number_bytes read.value))
+NumberAt bytes start record_place (Err fault) =
+    (cause : NumberCause) × NumberRefused bytes cause × (fault ≡ number_fault record_place start cause)

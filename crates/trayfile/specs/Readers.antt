@@ -41,16 +41,16 @@ pub record AtFault (before : TrayReader) (fault : Fault) (after : TrayReader) : 
   pub same_turn : after.turn ≡ before.turn
 
 -- the record at the place, in its turn; the reader stands right after it
-pub record AtRecord (before : TrayReader) (record-read : Record) (after : TrayReader) : Type 0 where
+pub record AtRecord (before : TrayReader) (record_read : Record) (after : TrayReader) : Type 0 where
   pub no_fault : before.fault ≡ None
-  pub here : RecordIn before.turn before.place (left_of before) (entry_of record-read) after.place after.turn
+  pub here : RecordIn before.turn before.place (left_of before) (entry_of record_read) after.place after.turn
   pub still_none : after.fault ≡ None
   pub same_file : after.file.now ≡ before.file.now
 
 -- One answer of the reader.
 abbrev pub Next : TrayReader → Option (Result Record Fault) → TrayReader → Type 0
 Next before None after = AtEnd before after
-Next before (Some (Ok record-read)) after = AtRecord before record-read after
+Next before (Some (Ok record_read)) after = AtRecord before record_read after
 Next before (Some (Err fault)) after = AtFault before fault after
 
 -- answers one after another: records, and then the end or a fault

@@ -2,8 +2,8 @@
 ghost use Rattle.std.specs.Prelude.{◌≡◌, ℕ, ◌≤◌, length, take};
 ghost use Rattle.std.specs.Str.{chars};
 ghost use Rattle.tags.specs.Calls.{call_of};
-ghost use Rattle.tags.specs.declared.call.Call.TheVariants.{Line as line-call, Read as read-call};
-ghost use Rattle.tags.specs.declared.event.Event.TheVariants.{Line as line-event, Read as read-event};
+ghost use Rattle.tags.specs.declared.call.Call.TheVariants.{Line as line_call, Read as read_call};
+ghost use Rattle.tags.specs.declared.event.Event.TheVariants.{Line as line_event, Read as read_event};
 ghost use Rattle.wholeweek.specs.Found.{FoundOn};
 
 use crate::found::Found;
@@ -41,7 +41,7 @@ pub fn read_found(line: &str) -> Found
 
 // The answer of an event of a line.
 fn line_answer(event: Event<'_>) -> Result<(), LineRefusal>
-    ensures { (text : _) → call_of event.entry ≡ line-call text → event.entry ≡ line-event text result }
+    ensures { (text : _) → call_of event.entry ≡ line_call text → event.entry ≡ line_event text result }
 {
     match event {
         Event::Line { answer, .. } => answer,
@@ -51,7 +51,7 @@ fn line_answer(event: Event<'_>) -> Result<(), LineRefusal>
 
 // The answer of an event of a read, and the buffer after it.
 fn read_answer(event: Event<'_>) -> (Result<Counts, ReadRefusal>, [u32; BUFFER])
-    ensures { (size : ℕ) → call_of event.entry ≡ read-call size → event.entry ≡ read-event size result.0 result.1 }
+    ensures { (size : ℕ) → call_of event.entry ≡ read_call size → event.entry ≡ read_event size result.0 result.1 }
 {
     match event {
         Event::Read { answer, buffer, .. } => (answer, buffer),
