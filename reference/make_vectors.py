@@ -4,7 +4,7 @@
     python3 reference/make_vectors.py
     python3 reference/make_vectors.py FOLDER
 
-The second form writes more cases, into the folder named: sequences of every length, and readings past the bound.
+The second form writes more cases, into the folder named, which must be there: sequences of every length, and readings past the bound.
 The answers are worked out here, apart from the library. Each run writes the same files.
 """
 
