@@ -1,0 +1,35 @@
+#!/bin/sh
+# Lists the places in the sources that docs/DESIGN-PASS.md counts, point by point: `tools/count_places.sh` at the repository's root.
+cd "$(dirname "$0")/.." || exit 1
+src='crates/*/src'
+point() { echo; echo "## $1"; }
+list() { grep -rnE "$1" $src; }
+
+point '1a, enums, to be read for the shape of Option or Result'
+list '^\s*(pub )?enum '
+point '1b, flags in structs'
+list '^\s+(pub )?\w+: bool,'
+point '1c, numbers for kinds and refusals'
+list '\b(kind|KIND|number): u32\b'
+point '1d, errors passed on by a match'
+list 'Err\(\w+\) => (return )?Err\('
+point '1e, numbers of refusals given by a match'
+grep -rnA4 'fn number(self) -> u32' $src | grep 'match self'
+point '3a, loops over an index'
+list '^\s*while |for \w+ in [^{]*\.\.'
+point '3b, loops that index other lists by the place'
+list '\.enumerate\(\)'
+point '3c, loops that answer at once, which may be a method of the library'
+grep -rnA6 -E '^\s*for \w+ in ' $src | grep -E 'return (false|true|Some|Err)|count \+= 1|size \+='
+point '4a, printing written by hand'
+list 'fmt::Display for'
+point '4b, calls that answer text or write it'
+list 'fn (\w+_text|write_(numbers|cells|polynomial|word))\b'
+point '4c, conversions'
+list 'fn (kind|cell|number|record|digit)_of\b'
+point '6a, arrays of a largest size'
+list '\[[^];]+; *(LARGEST_CELLS|LARGEST_ROWS|COEFFICIENTS|ROOM|BUFFER)\]'
+point '6b, parallel lists'
+list '^\s+(pub )?(multipliers|second): '
+point '7, function pointers, boxed calls, and matches that pick a call'
+list '\bfn\(|\bdyn |=> \w+_case\('
