@@ -11,5 +11,8 @@ pub record Code : Type 0 where
   pub locators : List ℕ
   pub multipliers : List ℕ
 
+abbrev pub code_with : ℕ → ℕ → List ℕ → List ℕ → Code
+code_with letters rows locators multipliers = record { letters = letters; rows = rows; locators = locators; multipliers = multipliers }
+
 abbrev pub code_of : CodeRef → Code
 code_of c = record { letters = c.letters; rows = c.rows; locators = c.locators.now; multipliers = c.multipliers.now }

@@ -1,5 +1,8 @@
 pub mod Code
+pub mod Checked
+pub mod CheckedOnce
 pub mod Cards
+pub mod AnyCards
 pub mod Sums
 pub mod Cells
 pub mod Codeword

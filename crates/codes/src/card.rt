@@ -1,21 +1,20 @@
 // A code card: a field, and the values of a code over it.
 mod check;
 
-ghost use Rattle.std.specs.Prelude.{◌≡◌, ◌≤◌, length};
-ghost use Rattle.algebra.specs.Limits.{largest_cells};
+ghost use Rattle.codes.specs.Code.{code_with};
+ghost use Rattle.codes.specs.Checked.{Checked};
+ghost use Rattle.codes.specs.CheckedOnce.{checked_prop};
 
 use algebra::LARGEST_CELLS;
+use arrayvec::ArrayVec;
+use fields::LetteredField;
 
 #[derive(Drop)]
-pub struct Card<F> {
+pub struct Card<F: LetteredField> {
     field: F,
     letters: u32,
     rows: usize,
-    cells: usize,
-    // Both lists stand in the first `cells` places.
-    locators: [u32; LARGEST_CELLS],
-    multipliers: [u32; LARGEST_CELLS],
-    ghost long: { cells ≤ largest_cells },
-    ghost locators_long: { length locators ≡ largest_cells },
-    ghost multipliers_long: { length multipliers ≡ largest_cells },
+    locators: ArrayVec<u32, LARGEST_CELLS>,
+    multipliers: ArrayVec<u32, LARGEST_CELLS>,
+    ghost checked: { Checked (F.Field.meaning field) (code_with letters rows locators.items multipliers.items) } by { checked_prop (F.Field.meaning field) (code_with letters rows locators.items multipliers.items) },
 }

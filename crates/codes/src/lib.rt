@@ -1,16 +1,20 @@
 // Codes over a field: cells, sums, and whether a line of cells is a codeword.
 #![tactic(auto)]
 
+mod any_card;
 mod card;
 mod card_cause;
 mod cell;
 mod code;
+mod over;
 mod syndromes;
 mod verdict;
 
+pub use any_card::AnyCard;
 pub use card::Card;
 pub use card_cause::CardCause;
 pub use cell::Cell;
 pub use code::CodeRef;
-pub use syndromes::{SumsRefusal, add_powers, sums};
-pub use verdict::{Verdict, all_zero, count_blanks, judge};
+pub use over::CodeOver;
+pub use syndromes::{SumsRefusal, add_powers};
+pub use verdict::{Verdict, all_zero, count_blanks, lettered};

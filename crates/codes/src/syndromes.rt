@@ -5,54 +5,43 @@ ghost use Rattle.codes.specs.Code.{code_of};
 ghost use Rattle.codes.specs.Sums.{Summed, sums_number};
 
 use crate::cell::Cell;
-use crate::code::CodeRef;
+use crate::over::CodeOver;
 use fields::Field;
-use std::fmt;
+use thiserror::Error;
 
-#[derive(Clone, Copy, PartialEq, Eq, Debug)]
+#[derive(Clone, Copy, PartialEq, Eq, Debug, Error)]
 pub enum SumsRefusal {
-    WrongLength,
+    #[error("wrong length")]
+    WrongLength = 25,
 }
 
 impl SumsRefusal {
     pub fn number(self) -> u32
         ensures { result ≡ sums_number self }
     {
-        match self {
-            SumsRefusal::WrongLength => 25,
-        }
+        self as u32
     }
 }
 
-impl fmt::Display for SumsRefusal {
-    fn fmt<W: fmt::Write>(&self, f: &mut fmt::Formatter<W>) -> fmt::Result {
-        match self {
-            SumsRefusal::WrongLength => f.write_str("wrong length"),
+impl<'a, F: Field> CodeOver<'a, F> {
+    // Writes into `sums` the sum of each row over the noted cells.
+    pub fn sums(self, cells: &[Cell], sums: &mut [u32]) -> Result<(), SumsRefusal>
+        ensures { Summed (F.Field.meaning self.entry.field.now).arithmetic (code_of self.entry.code) cells.now sums.old sums.new result }
+    {
+        let code = self.code;
+        let n = code.locators.len();
+        if code.multipliers.len() != n || cells.len() != n || sums.len() != code.rows {
+            return Err(SumsRefusal::WrongLength);
         }
-    }
-}
-
-// Writes into `sums` the sum of each row over the noted cells.
-pub fn sums<F: Field>(
-    field: &F,
-    code: CodeRef<'_>,
-    cells: &[Cell],
-    sums: &mut [u32],
-) -> Result<(), SumsRefusal>
-    ensures { Summed (F.Field.meaning field.now).arithmetic (code_of code.entry) cells.now sums.old sums.new result }
-{
-    let n = code.locators.len();
-    if code.multipliers.len() != n || cells.len() != n || sums.len() != code.rows {
-        return Err(SumsRefusal::WrongLength);
-    }
-    sums.fill(0);
-    for (j, cell) in cells.iter().enumerate() {
-        if let Some(letter) = cell.letter {
-            let weighted = field.mul(letter, code.multipliers[j]);
-            add_powers(field, weighted, code.locators[j], sums);
+        sums.fill(0);
+        for (j, cell) in cells.iter().enumerate() {
+            if let Some(letter) = cell.letter {
+                let weighted = self.field.mul(letter, code.multipliers[j]);
+                add_powers(self.field, weighted, code.locators[j], sums);
+            }
         }
+        Ok(())
     }
-    Ok(())
 }
 
 // Adds x × locator^k to the sum of row k, for every row.

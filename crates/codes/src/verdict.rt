@@ -5,8 +5,8 @@ ghost use Rattle.codes.specs.Cells.{blanks};
 ghost use Rattle.codes.specs.Verdicts.{Judgement, Lettered, AllZero};
 
 use crate::cell::Cell;
-use crate::code::CodeRef;
-use crate::syndromes::{SumsRefusal, sums};
+use crate::over::CodeOver;
+use crate::syndromes::SumsRefusal;
 use fields::Field;
 
 #[derive(Clone, Copy, PartialEq, Eq, Debug)]
@@ -16,59 +16,41 @@ pub enum Verdict {
     Damaged,
 }
 
-// Writes the sums into `row_sums`, and says whether the cells are a codeword.
-pub fn judge<F: Field>(
-    field: &F,
-    code: CodeRef<'_>,
-    cells: &[Cell],
-    row_sums: &mut [u32],
-) -> Result<Verdict, SumsRefusal>
-    ensures { Judgement (F.Field.meaning field.now).arithmetic (code_of code.entry) cells.now row_sums.old row_sums.new result }
-{
-    sums(field, code, cells, row_sums)?;
-    let blanks = count_blanks(cells);
-    if blanks > 0 {
-        return Ok(Verdict::Unfinished { blanks });
-    }
-    if lettered(cells, code.letters) && all_zero(row_sums) {
-        Ok(Verdict::Codeword)
-    } else {
-        Ok(Verdict::Damaged)
+impl<'a, F: Field> CodeOver<'a, F> {
+    // Writes the sums into `row_sums`, and says whether the cells are a codeword.
+    pub fn judge(self, cells: &[Cell], row_sums: &mut [u32]) -> Result<Verdict, SumsRefusal>
+        ensures { Judgement (F.Field.meaning self.entry.field.now).arithmetic (code_of self.entry.code) cells.now row_sums.old row_sums.new result }
+    {
+        self.sums(cells, row_sums)?;
+        let blanks = count_blanks(cells);
+        if blanks > 0 {
+            return Ok(Verdict::Unfinished { blanks });
+        }
+        if lettered(cells, self.code.letters) && all_zero(row_sums) {
+            Ok(Verdict::Codeword)
+        } else {
+            Ok(Verdict::Damaged)
+        }
     }
 }
 
 pub fn count_blanks(cells: &[Cell]) -> usize
     ensures { result ≡ blanks cells.now }
 {
-    let mut count = 0;
-    for cell in cells {
-        if cell.letter.is_none() {
-            count += 1;
-        }
-    }
-    count
+    cells.iter().filter(|cell| cell.letter.is_none()).count()
 }
 
-fn lettered(cells: &[Cell], letters: u32) -> bool
+// Is every noted letter one of the alphabet?
+pub fn lettered(cells: &[Cell], letters: u32) -> bool
     ensures { Decides result (Lettered letters cells.now) }
 {
-    for cell in cells {
-        if let Some(letter) = cell.letter {
-            if letter >= letters {
-                return false;
-            }
-        }
-    }
-    true
+    cells
+        .iter()
+        .all(|cell| cell.letter.is_none_or(|letter| letter < letters))
 }
 
 pub fn all_zero(numbers: &[u32]) -> bool
     ensures { Decides result (AllZero numbers.now) }
 {
-    for number in numbers {
-        if *number != 0 {
-            return false;
-        }
-    }
-    true
+    numbers.iter().all(|x| *x == 0)
 }

@@ -1,34 +1,46 @@
 // Why a record is refused, by the layer that refuses it.
 ghost use Rattle.std.specs.Prelude.{◌≡◌};
+ghost use Rattle.faults.specs.declared.layer.FieldFault.TheVariants.{NoSuchField as no_such_field, Made as not_made};
+ghost use Rattle.faults.specs.declared.layer.BodyFault.TheVariants.{Field as field_fault, Card as card_fault};
 ghost use Rattle.faults.specs.Layers.{field_fault_number, tag_number, file_number, layer_number, body_fault_number};
 
 use codes::CardCause;
-use fields::FieldCause;
-use std::fmt;
+use fields::{FieldCause, NoSuchField};
+use thiserror::Error;
 
 // The fields: no kind has the number, or the kind's maker refuses.
-#[derive(Clone, Copy)]
+#[derive(Clone, Copy, PartialEq, Eq, Debug, Error)]
 pub enum FieldFault {
+    #[error("no such field")]
     NoSuchField,
+    #[error(transparent)]
     Made(FieldCause),
 }
 
 // The tags.
-#[derive(Clone, Copy)]
+#[derive(Clone, Copy, PartialEq, Eq, Debug, Error)]
 pub enum TagCause {
-    NoLetter,
+    #[error("no letter")]
+    NoLetter = 22,
 }
 
 // The file.
-#[derive(Clone, Copy)]
+#[derive(Clone, Copy, PartialEq, Eq, Debug, Error)]
 pub enum FileCause {
-    CutOff,
-    BadNumber,
-    StrangeRecord,
-    OutOfTurn,
-    BadBody,
-    BadNote,
-    LongFile,
+    #[error("cut off")]
+    CutOff = 31,
+    #[error("bad number")]
+    BadNumber = 32,
+    #[error("strange record")]
+    StrangeRecord = 33,
+    #[error("out of turn")]
+    OutOfTurn = 34,
+    #[error("bad body")]
+    BadBody = 35,
+    #[error("bad note")]
+    BadNote = 36,
+    #[error("long file")]
+    LongFile = 37,
 }
 
 #[derive(Clone, Copy)]
@@ -65,9 +77,7 @@ impl TagCause {
     pub fn number(self) -> u32
         ensures { result ≡ tag_number self }
     {
-        match self {
-            TagCause::NoLetter => 22,
-        }
+        self as u32
     }
 }
 
@@ -75,15 +85,7 @@ impl FileCause {
     pub fn number(self) -> u32
         ensures { result ≡ file_number self }
     {
-        match self {
-            FileCause::CutOff => 31,
-            FileCause::BadNumber => 32,
-            FileCause::StrangeRecord => 33,
-            FileCause::OutOfTurn => 34,
-            FileCause::BadBody => 35,
-            FileCause::BadNote => 36,
-            FileCause::LongFile => 37,
-        }
+        self as u32
     }
 }
 
@@ -115,33 +117,27 @@ impl BodyFault {
     }
 }
 
-impl fmt::Display for FieldFault {
-    fn fmt<W: fmt::Write>(&self, f: &mut fmt::Formatter<W>) -> fmt::Result {
-        match self {
-            FieldFault::NoSuchField => f.write_str("no such field"),
-            FieldFault::Made(cause) => write!(f, "{cause}"),
-        }
+// No field kind has the number that a card names.
+impl From<NoSuchField> for BodyFault {
+    ghost from_gives = { λ _ fault. fault ≡ field_fault no_such_field };
+
+    fn from(_cause: NoSuchField) -> BodyFault {
+        BodyFault::Field(FieldFault::NoSuchField)
     }
 }
 
-impl fmt::Display for TagCause {
-    fn fmt<W: fmt::Write>(&self, f: &mut fmt::Formatter<W>) -> fmt::Result {
-        match self {
-            TagCause::NoLetter => f.write_str("no letter"),
-        }
+impl From<FieldCause> for BodyFault {
+    ghost from_gives = { λ cause fault. fault ≡ field_fault (not_made cause) };
+
+    fn from(cause: FieldCause) -> BodyFault {
+        BodyFault::Field(FieldFault::Made(cause))
     }
 }
 
-impl fmt::Display for FileCause {
-    fn fmt<W: fmt::Write>(&self, f: &mut fmt::Formatter<W>) -> fmt::Result {
-        match self {
-            FileCause::CutOff => f.write_str("cut off"),
-            FileCause::BadNumber => f.write_str("bad number"),
-            FileCause::StrangeRecord => f.write_str("strange record"),
-            FileCause::OutOfTurn => f.write_str("out of turn"),
-            FileCause::BadBody => f.write_str("bad body"),
-            FileCause::BadNote => f.write_str("bad note"),
-            FileCause::LongFile => f.write_str("long file"),
-        }
+impl From<CardCause> for BodyFault {
+    ghost from_gives = { λ cause fault. fault ≡ card_fault cause };
+
+    fn from(cause: CardCause) -> BodyFault {
+        BodyFault::Card(cause)
     }
 }

@@ -8,6 +8,7 @@ pub mod Irreducible
 pub mod BinaryArithmetic
 pub mod Binary
 pub mod Kinds
+pub mod FieldKinds
 pub mod BinaryModulus
 pub mod PolynomialRing
 pub mod PolynomialDegrees

@@ -2,30 +2,20 @@
 ghost use Rattle.std.specs.Prelude.{◌≡◌};
 ghost use Rattle.fields.specs.Causes.{field_number};
 
-use std::fmt;
+use thiserror::Error;
 
-#[derive(Clone, Copy, PartialEq, Eq, Debug)]
+#[derive(Clone, Copy, PartialEq, Eq, Debug, Error)]
 pub enum FieldCause {
-    NoPrime,
-    BadModulus,
+    #[error("no prime")]
+    NoPrime = 11,
+    #[error("bad modulus")]
+    BadModulus = 12,
 }
 
 impl FieldCause {
     pub fn number(self) -> u32
         ensures { result ≡ field_number self }
     {
-        match self {
-            FieldCause::NoPrime => 11,
-            FieldCause::BadModulus => 12,
-        }
-    }
-}
-
-impl fmt::Display for FieldCause {
-    fn fmt<W: fmt::Write>(&self, f: &mut fmt::Formatter<W>) -> fmt::Result {
-        match self {
-            FieldCause::NoPrime => f.write_str("no prime"),
-            FieldCause::BadModulus => f.write_str("bad modulus"),
-        }
+        self as u32
     }
 }

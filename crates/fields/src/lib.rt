@@ -4,11 +4,13 @@
 mod binary_field;
 mod cause;
 mod field;
+mod kind;
 mod lettered_field;
 mod prime_field;
 
 pub use binary_field::{BinaryField, polynomial_laws};
 pub use cause::FieldCause;
 pub use field::Field;
+pub use kind::{FieldKind, NoSuchField};
 pub use lettered_field::LetteredField;
 pub use prime_field::PrimeField;

@@ -2,33 +2,22 @@
 ghost use Rattle.std.specs.Prelude.{◌≡◌};
 ghost use Rattle.filling.specs.Encodings.{encode_number};
 
-use std::fmt;
+use thiserror::Error;
 
-#[derive(Clone, Copy, PartialEq, Eq, Debug)]
+#[derive(Clone, Copy, PartialEq, Eq, Debug, Error)]
 pub enum EncodeRefusal {
-    PartAlphabet,
-    WrongLength,
-    NoLetter,
+    #[error("part alphabet")]
+    PartAlphabet = 26,
+    #[error("wrong length")]
+    WrongLength = 25,
+    #[error("no letter")]
+    NoLetter = 22,
 }
 
 impl EncodeRefusal {
     pub fn number(self) -> u32
         ensures { result ≡ encode_number self }
     {
-        match self {
-            EncodeRefusal::PartAlphabet => 26,
-            EncodeRefusal::WrongLength => 25,
-            EncodeRefusal::NoLetter => 22,
-        }
-    }
-}
-
-impl fmt::Display for EncodeRefusal {
-    fn fmt<W: fmt::Write>(&self, f: &mut fmt::Formatter<W>) -> fmt::Result {
-        match self {
-            EncodeRefusal::PartAlphabet => f.write_str("part alphabet"),
-            EncodeRefusal::WrongLength => f.write_str("wrong length"),
-            EncodeRefusal::NoLetter => f.write_str("no letter"),
-        }
+        self as u32
     }
 }

@@ -2,30 +2,20 @@
 ghost use Rattle.std.specs.Prelude.{◌≡◌};
 ghost use Rattle.filling.specs.Fillings.{fill_number};
 
-use std::fmt;
+use thiserror::Error;
 
-#[derive(Clone, Copy, PartialEq, Eq, Debug)]
+#[derive(Clone, Copy, PartialEq, Eq, Debug, Error)]
 pub enum FillRefusal {
-    WrongLength,
-    TooBlank,
+    #[error("wrong length")]
+    WrongLength = 25,
+    #[error("too blank")]
+    TooBlank = 23,
 }
 
 impl FillRefusal {
     pub fn number(self) -> u32
         ensures { result ≡ fill_number self }
     {
-        match self {
-            FillRefusal::WrongLength => 25,
-            FillRefusal::TooBlank => 23,
-        }
-    }
-}
-
-impl fmt::Display for FillRefusal {
-    fn fmt<W: fmt::Write>(&self, f: &mut fmt::Formatter<W>) -> fmt::Result {
-        match self {
-            FillRefusal::WrongLength => f.write_str("wrong length"),
-            FillRefusal::TooBlank => f.write_str("too blank"),
-        }
+        self as u32
     }
 }

@@ -3,7 +3,7 @@ ghost use Rattle.std.specs.Prelude.{◌≡◌};
 ghost use Rattle.house.specs.HouseRows.{HouseRowFound, house_number, rule_first};
 
 use fields::{BinaryField, LetteredField, PrimeField};
-use std::fmt;
+use thiserror::Error;
 
 // How a row's locators are made.
 #[derive(Clone, Copy)]
@@ -77,26 +77,17 @@ pub const PUNCHED: HouseRow = HouseRow {
 // The rows by number, from 1 on.
 const HOUSE_ROWS: [HouseRow; 3] = [ENGRAVED, INKED, PUNCHED];
 
-#[derive(Clone, Copy, PartialEq, Eq, Debug)]
+#[derive(Clone, Copy, PartialEq, Eq, Debug, Error)]
 pub enum HouseRefusal {
-    NoHouseCard,
+    #[error("no house card")]
+    NoHouseCard = 18,
 }
 
 impl HouseRefusal {
     pub fn number(self) -> u32
         ensures { result ≡ house_number self }
     {
-        match self {
-            HouseRefusal::NoHouseCard => 18,
-        }
-    }
-}
-
-impl fmt::Display for HouseRefusal {
-    fn fmt<W: fmt::Write>(&self, f: &mut fmt::Formatter<W>) -> fmt::Result {
-        match self {
-            HouseRefusal::NoHouseCard => f.write_str("no house card"),
-        }
+        self as u32
     }
 }
 

@@ -5,13 +5,16 @@ ghost use Rattle.lines.specs.Lines.{LineRead, FirstBad, Marked, line_number, mar
 
 use crate::mark::read_mark;
 use codes::Cell;
-use std::fmt;
+use thiserror::Error;
 
-#[derive(Clone, Copy, PartialEq, Eq, Debug)]
+#[derive(Clone, Copy, PartialEq, Eq, Debug, Error)]
 pub enum LineRefusal {
+    #[error("wrong length")]
     WrongLength,
+    #[error("bad mark")]
     UnmarkedAlphabet,
     // The place counts from 0.
+    #[error("bad mark")]
     BadMark { place: usize },
 }
 
@@ -23,16 +26,6 @@ impl LineRefusal {
             LineRefusal::WrongLength => 25,
             LineRefusal::UnmarkedAlphabet => 28,
             LineRefusal::BadMark { .. } => 28,
-        }
-    }
-}
-
-impl fmt::Display for LineRefusal {
-    fn fmt<W: fmt::Write>(&self, f: &mut fmt::Formatter<W>) -> fmt::Result {
-        match self {
-            LineRefusal::WrongLength => f.write_str("wrong length"),
-            LineRefusal::UnmarkedAlphabet => f.write_str("bad mark"),
-            LineRefusal::BadMark { .. } => f.write_str("bad mark"),
         }
     }
 }

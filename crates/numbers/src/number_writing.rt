@@ -4,35 +4,25 @@ ghost use Rattle.numbers.specs.Numbers.{number_bytes};
 ghost use Rattle.numbers.specs.NumberWriting.{write_cause_number, NumberWritten, ReadsBack};
 
 use crate::limits::LARGEST_NUMBER;
-use std::fmt;
+use thiserror::Error;
 
 // The numbers below it are written in one byte; a larger one in groups that it divides by.
 const GROUP: u32 = 128;
 
 // Why a number can't be written.
-#[derive(Clone, Copy, PartialEq, Eq, Debug)]
+#[derive(Clone, Copy, PartialEq, Eq, Debug, Error)]
 pub enum WriteCause {
-    BadNumber,
-    TooSmall,
+    #[error("bad number")]
+    BadNumber = 32,
+    #[error("too small")]
+    TooSmall = 38,
 }
 
 impl WriteCause {
     pub fn number(self) -> u32
         ensures { result ≡ write_cause_number self }
     {
-        match self {
-            WriteCause::BadNumber => 32,
-            WriteCause::TooSmall => 38,
-        }
-    }
-}
-
-impl fmt::Display for WriteCause {
-    fn fmt<W: fmt::Write>(&self, f: &mut fmt::Formatter<W>) -> fmt::Result {
-        match self {
-            WriteCause::BadNumber => f.write_str("bad number"),
-            WriteCause::TooSmall => f.write_str("too small"),
-        }
+        self as u32
     }
 }
 

@@ -8,31 +8,21 @@ ghost use Rattle.pairs.specs.WorkedPairs.{WorkedPairs};
 use crate::poly::{Poly, combine};
 use algebra::{COEFFICIENTS, LONGEST_SEQUENCE};
 use fields::Field;
-use std::fmt;
+use thiserror::Error;
 
-#[derive(Clone, Copy, PartialEq, Eq, Debug)]
+#[derive(Clone, Copy, PartialEq, Eq, Debug, Error)]
 pub enum RealiseRefusal {
-    WrongLength,
-    NoElement,
+    #[error("wrong length")]
+    WrongLength = 25,
+    #[error("no element")]
+    NoElement = 17,
 }
 
 impl RealiseRefusal {
     pub fn number(self) -> u32
         ensures { result ≡ realise_number self }
     {
-        match self {
-            RealiseRefusal::WrongLength => 25,
-            RealiseRefusal::NoElement => 17,
-        }
-    }
-}
-
-impl fmt::Display for RealiseRefusal {
-    fn fmt<W: fmt::Write>(&self, f: &mut fmt::Formatter<W>) -> fmt::Result {
-        match self {
-            RealiseRefusal::WrongLength => f.write_str("wrong length"),
-            RealiseRefusal::NoElement => f.write_str("no element"),
-        }
+        self as u32
     }
 }
 

@@ -2,30 +2,20 @@
 ghost use Rattle.std.specs.Prelude.{◌≡◌};
 ghost use Rattle.tags.specs.Tags.{note_number};
 
-use std::fmt;
+use thiserror::Error;
 
-#[derive(Clone, Copy, PartialEq, Eq, Debug)]
+#[derive(Clone, Copy, PartialEq, Eq, Debug, Error)]
 pub enum NoteRefusal {
-    NoSuchCell,
-    NoLetter,
+    #[error("no such cell")]
+    NoSuchCell = 21,
+    #[error("no letter")]
+    NoLetter = 22,
 }
 
 impl NoteRefusal {
     pub fn number(self) -> u32
         ensures { result ≡ note_number self }
     {
-        match self {
-            NoteRefusal::NoSuchCell => 21,
-            NoteRefusal::NoLetter => 22,
-        }
-    }
-}
-
-impl fmt::Display for NoteRefusal {
-    fn fmt<W: fmt::Write>(&self, f: &mut fmt::Formatter<W>) -> fmt::Result {
-        match self {
-            NoteRefusal::NoSuchCell => f.write_str("no such cell"),
-            NoteRefusal::NoLetter => f.write_str("no letter"),
-        }
+        self as u32
     }
 }

@@ -2,27 +2,18 @@
 ghost use Rattle.std.specs.Prelude.{◌≡◌};
 ghost use Rattle.tags.specs.Tags.{wipe_number};
 
-use std::fmt;
+use thiserror::Error;
 
-#[derive(Clone, Copy, PartialEq, Eq, Debug)]
+#[derive(Clone, Copy, PartialEq, Eq, Debug, Error)]
 pub enum WipeRefusal {
-    NoSuchCell,
+    #[error("no such cell")]
+    NoSuchCell = 21,
 }
 
 impl WipeRefusal {
     pub fn number(self) -> u32
         ensures { result ≡ wipe_number self }
     {
-        match self {
-            WipeRefusal::NoSuchCell => 21,
-        }
-    }
-}
-
-impl fmt::Display for WipeRefusal {
-    fn fmt<W: fmt::Write>(&self, f: &mut fmt::Formatter<W>) -> fmt::Result {
-        match self {
-            WipeRefusal::NoSuchCell => f.write_str("no such cell"),
-        }
+        self as u32
     }
 }

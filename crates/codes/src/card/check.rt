@@ -2,12 +2,15 @@
 ghost use Rattle.std.specs.Prelude.{◌≡◌, ◌≤◌, length, take, Decides};
 ghost use Rattle.algebra.specs.Limits.{largest_cells};
 ghost use Rattle.codes.specs.Code.{Code, code_of};
-ghost use Rattle.codes.specs.Cards.{card_code, Shape, LocatorsFit, MultipliersFit, CardMade};
+ghost use Rattle.codes.specs.Cards.{card_code, CardMade};
+ghost use Rattle.codes.specs.Checked.{Shape, LocatorsFit, MultipliersFit};
 
 use crate::card::Card;
 use crate::card_cause::CardCause;
 use crate::code::CodeRef;
+use crate::over::CodeOver;
 use algebra::{LARGEST_CELLS, LARGEST_ROWS};
+use arrayvec::ArrayVec;
 use fields::{Field, LetteredField};
 
 impl<F: LetteredField + Drop> Card<F> {
@@ -32,26 +35,35 @@ impl<F: LetteredField + Drop> Card<F> {
             field,
             letters: code.letters,
             rows: code.rows,
-            cells: code.locators.len(),
-            locators: stored(code.locators),
-            multipliers: stored(code.multipliers),
+            locators: ArrayVec::try_from(code.locators).unwrap(),
+            multipliers: ArrayVec::try_from(code.multipliers).unwrap(),
         })
     }
 }
 
-impl<F> Card<F> {
+impl<F: LetteredField> Card<F> {
     pub fn field(&self) -> &F
         ensures { result.now ≡ self.now.field }
     {
         &self.field
     }
 
-    // How many cells the card has. They are counted by the locators, so that the contract can say that there is one for each.
+    // How many cells the card has: one for each locator.
     pub fn cells(&self) -> usize
-        ensures count { result ≡ self.now.cells }
-        ensures each { result ≡ length (card_code self.now).locators }
+        ensures { result ≡ length (card_code self.now).locators }
     {
-        self.locators[0..self.cells].len()
+        self.locators.len()
+    }
+
+    // The card's code over its field.
+    pub fn over(&self) -> CodeOver<'_, F>
+        ensures field { result.field.now ≡ self.now.field }
+        ensures values { code_of result.code ≡ card_code self.now }
+    {
+        CodeOver {
+            field: self.field(),
+            code: self.code(),
+        }
     }
 
     pub fn code(&self) -> CodeRef<'_>
@@ -60,8 +72,8 @@ impl<F> Card<F> {
         CodeRef {
             letters: self.letters,
             rows: self.rows,
-            locators: &self.locators[0..self.cells],
-            multipliers: &self.multipliers[0..self.cells],
+            locators: self.locators.as_slice(),
+            multipliers: self.multipliers.as_slice(),
         }
     }
 }
@@ -97,23 +109,5 @@ fn nonzero_elements<F: Field>(field: &F, multipliers: &[u32]) -> bool
     ensures { Decides result (MultipliersFit (F.Field.meaning field.now) multipliers.now) }
 {
     let size = field.size();
-    for multiplier in multipliers {
-        if *multiplier == 0 || *multiplier >= size {
-            return false;
-        }
-    }
-    true
-}
-
-// The list in the first places of an array, and zeros after it.
-fn stored(list: &[u32]) -> [u32; LARGEST_CELLS]
-    requires { length list.now ≤ largest_cells }
-    ensures front { take (length list.now) result ≡ list.now }
-    ensures long { length result ≡ largest_cells }
-{
-    let mut array = [0; LARGEST_CELLS];
-    for (j, number) in list.iter().enumerate() {
-        array[j] = *number;
-    }
-    array
+    multipliers.iter().all(|x| *x != 0 && *x < size)
 }

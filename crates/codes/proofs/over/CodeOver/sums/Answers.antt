@@ -7,8 +7,8 @@ use Rattle.codes.specs.declared.cell.Cell.{Cell}
 use Rattle.codes.specs.Code.{Code, code_of}
 use Rattle.codes.specs.Sums.{sum_to, add_cell, syndromes}
 use Rattle.codes.specs.Cells.{blank_cell}
-use Rattle.codes.proofs.syndromes.sums.Goals as goal
-use Rattle.codes.proofs.syndromes.sums.Goals.{in-Some, in_default}
+use Rattle.codes.proofs.over.CodeOver.sums.Goals as goal
+use Rattle.codes.proofs.over.CodeOver.sums.Goals.{in-Some, in_default}
 
 pub loop-j-init : goal.loop-j-init
 unfolding sum_to
@@ -25,8 +25,8 @@ turn A code cells k j letter x before is so_far e =
 
 pub loop-j-preserved : goal.loop-j-preserved
 loop-j-preserved g c k h =
-    let A = (g.F.Field.meaning c.args.field.now).arithmetic in
-    let code = code_of c.args.code in
+    let A = (g.F.Field.meaning c.args.self.field.now).arithmetic in
+    let code = code_of c.args.self.code in
     let before = get_or c.loop-j.sums k 0 in
     let at_j = turn A code c.args.cells.now k c.loop-j.j in
     let long = c.match-cell.auto.sums in
@@ -46,8 +46,8 @@ pub returns : goal.returns
 unfolding syndromes
 returns g c =
     let whole : c.loop-j.j ≡ length c.args.cells.now = omega arith in
-    let rows : length c.loop-j.sums ≡ c.args.code.rows = omega (arith, c.fill.ensures.len) in (
+    let rows : length c.loop-j.sums ≡ c.args.self.code.rows = omega (arith, c.fill.ensures.len) in (
       record { a_multiplier_each = c.if-code-n.false; a_cell_each = c.if-cells-n.false; a_place_each = c.if-sums-code.false },
-      fill_by_all _ c.loop-j.sums c.args.code.rows 0 rows
-          (λ k h. c.loop-j.invariant k (omega arith) ∙ ap (sum_to _ (code_of c.args.code) c.args.cells.now k) whole),
+      fill_by_all _ c.loop-j.sums c.args.self.code.rows 0 rows
+          (λ k h. c.loop-j.invariant k (omega arith) ∙ ap (sum_to _ (code_of c.args.self.code) c.args.cells.now k) whole),
     )

@@ -9,8 +9,8 @@ use Rattle.codes.specs.declared.cell.Cell.{Cell}
 use Rattle.codes.proofs.Words.{letters_of, noted_letters}
 use Rattle.codes.proofs.Codewords.{codeword_from_noted, noted_lettered, noted_zeros}
 use Rattle.std.proofs.lemmas.Bool.{false≢true}
-use Rattle.codes.proofs.verdict.judge.Goals as goal
-use Rattle.codes.proofs.verdict.judge.Goals.{else-lettered-via-then-lettered+else-all_zero, else-lettered-via-else-lettered}
+use Rattle.codes.proofs.over.CodeOver.judge.Goals as goal
+use Rattle.codes.proofs.over.CodeOver.judge.Goals.{else-lettered-via-then-lettered+else-all_zero, else-lettered-via-else-lettered}
 
 module _ (A : Arithmetic) (code : Code) (cells : List Cell) (sums : List ℕ) (sums_are : sums ≡ syndromes A code cells) where
   a_codeword : length cells ≡ length code.locators → blanks cells ≡ 0 → Lettered code.letters cells → AllZero sums → (word : List ℕ) × (cells ≡ noted word) × Codeword A code word
@@ -37,14 +37,14 @@ returns-then-all_zero g c =
     let none : blanks c.args.cells.now ≡ 0 = omega arith in (
       summed.0,
       summed.1,
-      a_codeword _ (code_of c.args.code) c.args.cells.now c.sums.new.sums summed.1 summed.0.a_cell_each none (c.if-lettered.ensures.0 refl) (c.if-all_zero.ensures.0 refl),
+      a_codeword _ (code_of c.args.self.code) c.args.cells.now c.sums.new.sums summed.1 summed.0.a_cell_each none (c.if-lettered.ensures.0 refl) (c.if-all_zero.ensures.0 refl),
     )
 
 pub returns-else-lettered : goal.returns-else-lettered
 returns-else-lettered g c =
     let summed = c.in_ok-sums.ensures in
     let none : blanks c.args.cells.now ≡ 0 = omega arith in
-    let tests = tested _ (code_of c.args.code) c.args.cells.now c.sums.new.sums summed.1 in (
+    let tests = tested _ (code_of c.args.self.code) c.args.cells.now c.sums.new.sums summed.1 in (
       summed.0,
       summed.1,
       (

@@ -1,0 +1,9 @@
+-- The values of a card over either kind of field. Assumes nothing.
+use Rattle.codes.specs.Code.{Code}
+use Rattle.codes.specs.Cards.{card_code}
+use Rattle.codes.specs.declared.any_card.AnyCard.{AnyCard}
+use Rattle.codes.specs.declared.any_card.AnyCard.TheVariants.{Prime, Binary}
+
+abbrev pub any_code : AnyCard → Code
+any_code (Prime card) = card_code card
+any_code (Binary card) = card_code card

@@ -1,0 +1,8 @@
+// A code over a field, lent. No law is asked of the field, and no rule of the values.
+use crate::code::CodeRef;
+
+#[derive_where(Clone, Copy)]
+pub struct CodeOver<'a, F> {
+    pub field: &'a F,
+    pub code: CodeRef<'a>,
+}
