@@ -2,8 +2,8 @@
 use Rattle.std.proofs.Common.{◌≡◌, ℕ, ◌+◌, ◌<◌, ◌≤◌, List, ◌++◌, length, drop, sym, ap, ◌∙◌, subst, inl, inr, ⊎_elim, arith}
 use Rattle.std.proofs.lemmas.List.{append-nil, length-append, length-drop, drop_all}
 use Rattle.numbers.specs.NumberReading.{EndsInside, NoNumber}
-use Rattle.faults.specs.declared.layer.BodyFault.{BodyFault}
-use Rattle.faults.specs.declared.layer.BodyFault.TheVariants.{BadNumber, BadBody, BadNote, Field, Card, Tag}
+use Rattle.faults.specs.declared.body_fault.BodyFault.{BodyFault}
+use Rattle.faults.specs.declared.body_fault.BodyFault.TheVariants.{BadNumber, BadBody, BadNote, Field, Card, Tag}
 use Rattle.bodies.specs.NumberLists.{numbers, after, Begins, Stops, NumberMissing}
 use Rattle.bodies.specs.WholeLists.{GoesOn, ListRefused, Are}
 use Rattle.bodies.proofs.NumberLists.{from_end, numbers_append, small_append, length_numbers_append, after_append, begins_append}

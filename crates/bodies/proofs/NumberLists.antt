@@ -4,8 +4,8 @@ use Rattle.std.proofs.lemmas.List.{append_assoc, append-nil, length-append, drop
 use Rattle.numbers.specs.Numbers.{number_bytes}
 use Rattle.numbers.specs.NumberReading.{StandsFirst, EndsInside, NoNumber}
 use Rattle.numbers.specs.declared.number_reading.NumberRead.{NumberRead}
-use Rattle.faults.specs.declared.layer.BodyFault.{BodyFault}
-use Rattle.faults.specs.declared.layer.BodyFault.TheVariants.{BadNumber, BadBody, BadNote, Field, Card, Tag}
+use Rattle.faults.specs.declared.body_fault.BodyFault.{BodyFault}
+use Rattle.faults.specs.declared.body_fault.BodyFault.TheVariants.{BadNumber, BadBody, BadNote, Field, Card, Tag}
 use Rattle.bodies.specs.NumberLists.{numbers, Small, after, Begins, NumberMissing, NumberIn}
 
 pub numbers_append : (vs ws : List ℕ) → numbers (vs ++ ws) ≡ numbers vs ++ numbers ws

@@ -19,9 +19,9 @@ use Rattle.codes.specs.Code.{Code}
 use Rattle.codes.specs.Cards.{Checked, LocatorsFit, MultipliersFit, card_code}
 use Rattle.fields.specs.Kinds.{prime_kind, binary_kind}
 use Rattle.numbers.specs.Numbers.{largest_number}
-use Rattle.faults.specs.declared.layer.BodyFault.{BodyFault}
-use Rattle.faults.specs.declared.layer.BodyFault.TheVariants.{BadNumber, BadBody, BadNote, Field, Card, Tag}
-use Rattle.faults.specs.declared.layer.FieldFault.TheVariants.{NoSuchField, Made}
+use Rattle.faults.specs.declared.body_fault.BodyFault.{BodyFault}
+use Rattle.faults.specs.declared.body_fault.BodyFault.TheVariants.{BadNumber, BadBody, BadNote, Field, Card, Tag}
+use Rattle.faults.specs.declared.field_fault.FieldFault.TheVariants.{NoSuchField, Made}
 use Rattle.codes.specs.declared.card_cause.CardCause.TheVariants.{BadShape, NoAlphabet, BadLocator, BadMultiplier}
 use Rattle.bodies.specs.declared.card_head.CardHead.{CardHead}
 use Rattle.bodies.specs.declared.card_body.TrayCard.{TrayCard}

@@ -4,9 +4,9 @@ use Rattle.std.proofs.lemmas.List.{length-map, get_or-map}
 use Rattle.codes.specs.Cells.{blank_cell}
 use Rattle.codes.specs.Verdicts.{Lettered, BelowIfNoted}
 use Rattle.codes.specs.declared.cell.Cell.{Cell}
-use Rattle.faults.specs.declared.layer.BodyFault.{BodyFault}
-use Rattle.faults.specs.declared.layer.BodyFault.TheVariants.{BadNumber, BadBody, BadNote, Field, Card, Tag}
-use Rattle.faults.specs.declared.layer.TagCause.TheVariants.{NoLetter}
+use Rattle.faults.specs.declared.body_fault.BodyFault.{BodyFault}
+use Rattle.faults.specs.declared.body_fault.BodyFault.TheVariants.{BadNumber, BadBody, BadNote, Field, Card, Tag}
+use Rattle.faults.specs.declared.tag_cause.TagCause.TheVariants.{NoLetter}
 use Rattle.bodies.specs.WholeLists.{Are}
 use Rattle.bodies.specs.CellBodies.{letter_number, cell_number, cell_of_number, cells_of, UpTo, CellsIn, CellsRefused}
 use Rattle.bodies.specs.declared.cells_refusal.CellsRefusal.TheVariants.{WrongLength, Body}

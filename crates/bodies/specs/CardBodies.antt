@@ -16,9 +16,9 @@ use Rattle.codes.specs.declared.card_cause.CardCause.TheVariants.{BadShape, NoAl
 use Rattle.bodies.specs.NumberLists.{numbers, after, Begins, NumberMissing}
 use Rattle.bodies.specs.WholeLists.{ListRefused, Are}
 use Rattle.bodies.specs.CardHeads.{head_count, head_numbers, HeadShape, FieldOf, HeadFits}
-use Rattle.faults.specs.declared.layer.BodyFault.{BodyFault}
-use Rattle.faults.specs.declared.layer.BodyFault.TheVariants.{BadNumber, BadBody, BadNote, Field, Card, Tag}
-use Rattle.faults.specs.declared.layer.FieldFault.TheVariants.{NoSuchField, Made}
+use Rattle.faults.specs.declared.body_fault.BodyFault.{BodyFault}
+use Rattle.faults.specs.declared.body_fault.BodyFault.TheVariants.{BadNumber, BadBody, BadNote, Field, Card, Tag}
+use Rattle.faults.specs.declared.field_fault.FieldFault.TheVariants.{NoSuchField, Made}
 use Rattle.bodies.specs.declared.card_head.CardHead.{CardHead}
 use Rattle.bodies.specs.declared.card_head.ReadHead.{ReadHead}
 use Rattle.bodies.specs.declared.card_body.TrayCard.{TrayCard}

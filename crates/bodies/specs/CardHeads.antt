@@ -8,7 +8,7 @@ use Rattle.fields.specs.BinaryArithmetic.{modulo_polynomial}
 use Rattle.fields.specs.Binary.{BinaryModulus}
 use Rattle.fields.specs.Kinds.{prime_kind, binary_kind}
 use Rattle.bodies.specs.NumberLists.{numbers, Begins, NumberMissing}
-use Rattle.faults.specs.declared.layer.BodyFault.{BodyFault}
+use Rattle.faults.specs.declared.body_fault.BodyFault.{BodyFault}
 use Rattle.bodies.specs.declared.card_head.CardHead.{CardHead}
 use Rattle.bodies.specs.declared.card_head.ReadHead.{ReadHead}
 

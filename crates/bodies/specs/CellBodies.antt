@@ -7,9 +7,9 @@ use Rattle.codes.specs.Verdicts.{Lettered}
 use Rattle.codes.specs.declared.cell.Cell.{Cell}
 use Rattle.bodies.specs.NumberLists.{numbers, Small}
 use Rattle.bodies.specs.WholeLists.{ListRefused, Are}
-use Rattle.faults.specs.declared.layer.BodyFault.{BodyFault}
-use Rattle.faults.specs.declared.layer.BodyFault.TheVariants.{BadNumber, BadBody, BadNote, Field, Card, Tag}
-use Rattle.faults.specs.declared.layer.TagCause.TheVariants.{NoLetter}
+use Rattle.faults.specs.declared.body_fault.BodyFault.{BodyFault}
+use Rattle.faults.specs.declared.body_fault.BodyFault.TheVariants.{BadNumber, BadBody, BadNote, Field, Card, Tag}
+use Rattle.faults.specs.declared.tag_cause.TagCause.TheVariants.{NoLetter}
 use Rattle.bodies.specs.declared.number_list.NumberList.{NumberList}
 use Rattle.bodies.specs.declared.cells_refusal.CellsRefusal.{CellsRefusal}
 use Rattle.bodies.specs.declared.cells_refusal.CellsRefusal.TheVariants.{WrongLength, Body}

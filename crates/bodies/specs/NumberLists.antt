@@ -4,8 +4,8 @@ use Rattle.algebra.specs.Limits.{largest_cells}
 use Rattle.numbers.specs.Numbers.{largest_number, number_bytes}
 use Rattle.numbers.specs.NumberReading.{StandsFirst, EndsInside, NoNumber}
 use Rattle.numbers.specs.declared.number_reading.NumberRead.{NumberRead}
-use Rattle.faults.specs.declared.layer.BodyFault.{BodyFault}
-use Rattle.faults.specs.declared.layer.BodyFault.TheVariants.{BadNumber, BadBody, BadNote, Field, Card, Tag}
+use Rattle.faults.specs.declared.body_fault.BodyFault.{BodyFault}
+use Rattle.faults.specs.declared.body_fault.BodyFault.TheVariants.{BadNumber, BadBody, BadNote, Field, Card, Tag}
 use Rattle.bodies.specs.declared.number_list.NumberList.{NumberList}
 
 -- the bytes of numbers, one number after another

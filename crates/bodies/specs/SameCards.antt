@@ -5,7 +5,7 @@ use Rattle.codes.specs.Cards.{card_code}
 use Rattle.codes.specs.declared.cell.Cell.{Cell}
 use Rattle.bodies.specs.CardBodies.{CardIn, CardRead}
 use Rattle.bodies.specs.CellBodies.{CellsIn, CellsReadInto}
-use Rattle.faults.specs.declared.layer.BodyFault.{BodyFault}
+use Rattle.faults.specs.declared.body_fault.BodyFault.{BodyFault}
 use Rattle.bodies.specs.declared.cells_refusal.CellsRefusal.{CellsRefusal}
 use Rattle.bodies.specs.declared.card_body.TrayCard.{TrayCard}
 use Rattle.bodies.specs.declared.card_body.TrayCard.TheVariants.{Prime, Binary}

@@ -3,8 +3,8 @@ use Rattle.std.specs.Prelude.{◌≡◌, ℕ, ◌+◌, ◌<◌, ◌⊎◌, List,
 use Rattle.algebra.specs.Limits.{largest_cells}
 use Rattle.numbers.specs.NumberReading.{EndsInside, NoNumber}
 use Rattle.bodies.specs.NumberLists.{numbers, Small, after, Begins, Stops}
-use Rattle.faults.specs.declared.layer.BodyFault.{BodyFault}
-use Rattle.faults.specs.declared.layer.BodyFault.TheVariants.{BadNumber, BadBody, BadNote, Field, Card, Tag}
+use Rattle.faults.specs.declared.body_fault.BodyFault.{BodyFault}
+use Rattle.faults.specs.declared.body_fault.BodyFault.TheVariants.{BadNumber, BadBody, BadNote, Field, Card, Tag}
 use Rattle.bodies.specs.declared.number_list.NumberList.{NumberList}
 use Rattle.bodies.specs.declared.whole_lists.TwoLists.{TwoLists}
 

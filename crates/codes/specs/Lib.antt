@@ -7,3 +7,4 @@ pub mod Sums
 pub mod Cells
 pub mod Codeword
 pub mod Verdicts
+pub mod WordText

@@ -9,6 +9,7 @@ mod code;
 mod over;
 mod syndromes;
 mod verdict;
+mod word;
 
 pub use any_card::AnyCard;
 pub use card::Card;
@@ -18,3 +19,4 @@ pub use code::CodeRef;
 pub use over::CodeOver;
 pub use syndromes::{SumsRefusal, add_powers};
 pub use verdict::{Verdict, all_zero, count_blanks, lettered};
+pub use word::Word;

@@ -14,7 +14,8 @@ use Rattle.pairs.specs.MinimalPair.{Lengths, OfElements, Realised, state_after}
 use Rattle.pairs.specs.WorkedPairs.{HasPair}
 use Rattle.pairs.specs.declared.minimal_pair.RealiseRefusal.{RealiseRefusal}
 use Rattle.pairs.specs.declared.minimal_pair.RealiseRefusal.TheVariants as realise
-use Rattle.filling.specs.Encodings.{EncodeLengths, AllBelow, Encoded}
+use Rattle.fields.specs.Elements.{AllBelow}
+use Rattle.filling.specs.Encodings.{EncodeLengths, Encoded}
 use Rattle.filling.specs.CodeExamples.{modulo_seven, small_code}
 use Rattle.filling.specs.declared.encode_refusal.EncodeRefusal.{EncodeRefusal}
 use Rattle.filling.specs.declared.encode_refusal.EncodeRefusal.TheVariants as encode

@@ -2,14 +2,14 @@
 use Rattle.std.specs.Prelude.{ℕ}
 use Rattle.fields.specs.Causes.{field_number}
 use Rattle.codes.specs.Cards.{card_number}
-use Rattle.faults.specs.declared.layer.FieldFault.{FieldFault}
-use Rattle.faults.specs.declared.layer.FieldFault.TheVariants.{NoSuchField, Made}
-use Rattle.faults.specs.declared.layer.TagCause.{TagCause}
-use Rattle.faults.specs.declared.layer.TagCause.TheVariants.{NoLetter}
-use Rattle.faults.specs.declared.layer.FileCause.{FileCause}
-use Rattle.faults.specs.declared.layer.FileCause.TheVariants.{CutOff, BadNumber, StrangeRecord, OutOfTurn, BadBody, BadNote, LongFile}
-use Rattle.faults.specs.declared.layer.BodyFault.{BodyFault}
-use Rattle.faults.specs.declared.layer.BodyFault.TheVariants as body
+use Rattle.faults.specs.declared.field_fault.FieldFault.{FieldFault}
+use Rattle.faults.specs.declared.field_fault.FieldFault.TheVariants.{NoSuchField, Made}
+use Rattle.faults.specs.declared.tag_cause.TagCause.{TagCause}
+use Rattle.faults.specs.declared.tag_cause.TagCause.TheVariants.{NoLetter}
+use Rattle.faults.specs.declared.file_cause.FileCause.{FileCause}
+use Rattle.faults.specs.declared.file_cause.FileCause.TheVariants.{CutOff, BadNumber, StrangeRecord, OutOfTurn, BadBody, BadNote, LongFile}
+use Rattle.faults.specs.declared.body_fault.BodyFault.{BodyFault}
+use Rattle.faults.specs.declared.body_fault.BodyFault.TheVariants as body
 use Rattle.faults.specs.declared.layer.Layer.{Layer}
 use Rattle.faults.specs.declared.layer.Layer.TheVariants as layers
 

@@ -7,6 +7,7 @@ pub mod PolynomialLaws
 pub mod Irreducible
 pub mod BinaryArithmetic
 pub mod Binary
+pub mod Elements
 pub mod Kinds
 pub mod FieldKinds
 pub mod BinaryModulus

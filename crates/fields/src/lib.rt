@@ -3,6 +3,7 @@
 
 mod binary_field;
 mod cause;
+mod elements;
 mod field;
 mod kind;
 mod lettered_field;
@@ -10,6 +11,7 @@ mod prime_field;
 
 pub use binary_field::{BinaryField, polynomial_laws};
 pub use cause::FieldCause;
+pub use elements::all_below;
 pub use field::Field;
 pub use kind::{FieldKind, NoSuchField};
 pub use lettered_field::LetteredField;

@@ -9,7 +9,8 @@ use Rattle.codes.specs.Cells.{blank_cell}
 use Rattle.codes.specs.Sums.{syndromes}
 use Rattle.codes.specs.Verdicts.{BelowIfNoted, Lettered}
 use Rattle.filling.specs.Fillings.{filled_letter, filled, IfNoted, Agrees}
-use Rattle.filling.specs.Encodings.{data_cells, encoding, EncodeLengths, AllBelow, Begins, Encodes, Encoded}
+use Rattle.fields.specs.Elements.{AllBelow}
+use Rattle.filling.specs.Encodings.{data_cells, encoding, EncodeLengths, Begins, Encodes, Encoded}
 use Rattle.codes.specs.declared.cell.Cell.{Cell}
 use Rattle.filling.proofs.FilledWords.{fills_only, fills_to_zero}
 use Rattle.filling.proofs.DataCells.{length_data_cells, blanks_data_cells, data_noted, each_data_cell}

@@ -1,6 +1,7 @@
 -- Encoding: the codeword that begins with given data letters. Assumes nothing.
 use Rattle.std.specs.Prelude.{◌≡◌, ℕ, ◌+◌, ◌<◌, ◌≤◌, List, ◌++◌, length, take, replicate, Ok, Err, Result, slice_index}
 use Rattle.algebra.specs.Meaning.{Meaning}
+use Rattle.fields.specs.Elements.{AllBelow}
 use Rattle.codes.specs.Code.{Code}
 use Rattle.codes.specs.Cells.{blank_cell, noted}
 use Rattle.codes.specs.Codeword.{Codeword}
@@ -22,10 +23,6 @@ encoding m code letters = filled m code (data_cells code letters) (syndromes m.a
 pub record EncodeLengths (code : Code) (letters buffer : List ℕ) : Type 0 where
   pub data_each : length letters + code.rows ≡ length code.locators
   pub a_place_each : length buffer ≡ length code.locators
-
--- every number is below the alphabet size
-abbrev pub AllBelow : ℕ → List ℕ → Type 0
-AllBelow size numbers = (j : ℕ) → j < length numbers → slice_index numbers j < size
 
 -- a word begins with the data
 abbrev pub Begins : List ℕ → List ℕ → Type 0

@@ -4,7 +4,8 @@ ghost use Rattle.algebra.specs.Limits.{largest_cells};
 ghost use Rattle.codes.specs.Code.{code_of};
 ghost use Rattle.codes.specs.Cards.{Checked, card_code};
 ghost use Rattle.codes.specs.Cells.{blank_cell, noted};
-ghost use Rattle.filling.specs.Encodings.{encoding, AllBelow, EncodeLengths, Encoded};
+ghost use Rattle.fields.specs.Elements.{AllBelow};
+ghost use Rattle.filling.specs.Encodings.{encoding, EncodeLengths, Encoded};
 
 use crate::encode_refusal::EncodeRefusal;
 use crate::filling::write_letters;

@@ -7,7 +7,8 @@ use Rattle.codes.specs.Code.{Code}
 use Rattle.codes.specs.Cards.{Checked, card_code, card_number}
 use Rattle.codes.specs.declared.card.Card.{Card}
 use Rattle.codes.specs.declared.card_cause.CardCause.{CardCause}
-use Rattle.filling.specs.Encodings.{AllBelow, Encodes, encode_number}
+use Rattle.fields.specs.Elements.{AllBelow}
+use Rattle.filling.specs.Encodings.{Encodes, encode_number}
 use Rattle.filling.specs.declared.encode_refusal.EncodeRefusal.{EncodeRefusal}
 
 -- two rows, the locators 0 to 3 and multipliers 1

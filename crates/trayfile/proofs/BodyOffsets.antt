@@ -3,7 +3,7 @@ use Rattle.std.proofs.Common.{◌≡◌, ℕ, ◌+◌, ◌≤◌, List, length, 
 use Rattle.std.proofs.lemmas.List.{length-append}
 use Rattle.bodies.specs.NumberLists.{numbers, after, Begins}
 use Rattle.bodies.specs.CardHeads.{head_numbers}
-use Rattle.faults.specs.declared.layer.BodyFault.TheVariants.{BadNumber}
+use Rattle.faults.specs.declared.body_fault.BodyFault.TheVariants.{BadNumber}
 use Rattle.trayfile.specs.Records.{BodyRefused}
 use Rattle.trayfile.specs.declared.turn.Task.{Task}
 use Rattle.trayfile.specs.declared.turn.Task.TheVariants as task

@@ -5,7 +5,7 @@ use Rattle.numbers.specs.Numbers.{number_bytes}
 use Rattle.numbers.specs.NumberReading.{StandsFirst, NumberRefused}
 use Rattle.numbers.specs.declared.number_cause.NumberCause.{NumberCause}
 use Rattle.numbers.proofs.NumberBytes.{bytes_of}
-use Rattle.faults.specs.declared.layer.FileCause.TheVariants.{CutOff}
+use Rattle.faults.specs.declared.file_cause.FileCause.TheVariants.{CutOff}
 use Rattle.trayfile.specs.Faults.{fault_at, number_fault}
 use Rattle.trayfile.specs.Kinds.{kind_number}
 use Rattle.trayfile.specs.Turns.{task_for}

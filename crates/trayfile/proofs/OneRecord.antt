@@ -6,7 +6,7 @@ use Rattle.numbers.specs.NumberReading.{StandsFirst, NumberRefused}
 use Rattle.numbers.specs.declared.number_cause.NumberCause.{NumberCause}
 use Rattle.numbers.specs.declared.number_cause.NumberCause.TheVariants.{CutOff, BadNumber}
 use Rattle.numbers.proofs.NumberBytes.{stands, same_number, not_inside}
-use Rattle.faults.specs.declared.layer.BodyFault.{BodyFault}
+use Rattle.faults.specs.declared.body_fault.BodyFault.{BodyFault}
 use Rattle.bodies.proofs.OneCard.{card_never}
 use Rattle.bodies.proofs.SameCells.{cells_never}
 use Rattle.trayfile.specs.Kinds.{kind_number}

@@ -4,7 +4,7 @@ use Rattle.std.specs.List.{between}
 use Rattle.std.proofs.lemmas.List.{append_assoc, length-append, length-drop, drop-drop, drop_at, take-append-drop, length-take-le}
 use Rattle.numbers.specs.Numbers.{largest_number, number_bytes}
 use Rattle.numbers.specs.NumberReading.{StandsFirst}
-use Rattle.faults.specs.declared.layer.BodyFault.{BodyFault}
+use Rattle.faults.specs.declared.body_fault.BodyFault.{BodyFault}
 use Rattle.trayfile.specs.Faults.{body_fault}
 use Rattle.trayfile.specs.Kinds.{kind_number}
 use Rattle.trayfile.specs.Entries.{entry, record_bytes}

@@ -2,7 +2,7 @@
 use Rattle.std.proofs.Common.{◌≡◌, ℕ, ◌+◌, ltb, List, [], ◌∷◌, map, length, drop, Some, None, Option, sym, refl, ap, ◌∙◌, subst, inl, inr, ⊎_elim, arith}
 use Rattle.std.proofs.lemmas.List.{drop-drop}
 use Rattle.std.proofs.lemmas.Bool.{cases_lt, lt-ltb, le-ltb, cond-true, cond-false}
-use Rattle.faults.specs.declared.layer.FileCause.TheVariants.{LongFile}
+use Rattle.faults.specs.declared.file_cause.FileCause.TheVariants.{LongFile}
 use Rattle.trayfile.specs.Faults.{fault_at}
 use Rattle.trayfile.specs.Entries.{entry_of, entry_bytes}
 use Rattle.trayfile.specs.Files.{longest_file, FileFrom}

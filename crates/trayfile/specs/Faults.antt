@@ -1,11 +1,11 @@
 -- Faults: what is refused, and where. Assumes nothing.
 use Rattle.std.specs.Prelude.{ℕ, ◌+◌, ◌^◌, ◌<◌}
 use Rattle.faults.specs.Layers.{layer_number}
-use Rattle.faults.specs.declared.layer.BodyFault.{BodyFault}
-use Rattle.faults.specs.declared.layer.BodyFault.TheVariants as body
+use Rattle.faults.specs.declared.body_fault.BodyFault.{BodyFault}
+use Rattle.faults.specs.declared.body_fault.BodyFault.TheVariants as body
 use Rattle.faults.specs.declared.layer.Layer.TheVariants.{Field, Card, Tag, File}
-use Rattle.faults.specs.declared.layer.FileCause.{FileCause}
-use Rattle.faults.specs.declared.layer.FileCause.TheVariants.{CutOff, BadNumber, BadBody, BadNote}
+use Rattle.faults.specs.declared.file_cause.FileCause.{FileCause}
+use Rattle.faults.specs.declared.file_cause.FileCause.TheVariants.{CutOff, BadNumber, BadBody, BadNote}
 use Rattle.numbers.specs.declared.number_cause.NumberCause.{NumberCause}
 use Rattle.numbers.specs.declared.number_cause.NumberCause.TheVariants as number
 use Rattle.trayfile.specs.declared.fault.Fault.{Fault}

@@ -1,6 +1,6 @@
 -- A whole file: the records that it has, and how it ends. Assumes nothing.
 use Rattle.std.specs.Prelude.{◌≡◌, ℕ, ◌+◌, ◌<◌, ◌≤◌, ◌⊎◌, List, [], ◌∷◌, length, drop, Some, None, Option}
-use Rattle.faults.specs.declared.layer.FileCause.TheVariants.{LongFile}
+use Rattle.faults.specs.declared.file_cause.FileCause.TheVariants.{LongFile}
 use Rattle.trayfile.specs.Faults.{fault_at}
 use Rattle.trayfile.specs.Entries.{Entry, entry_bytes}
 use Rattle.trayfile.specs.Records.{EntryFirst, Follows, RecordRefused}

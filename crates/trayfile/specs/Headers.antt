@@ -4,7 +4,7 @@ use Rattle.numbers.specs.Numbers.{number_bytes}
 use Rattle.numbers.specs.NumberReading.{StandsFirst, NumberRefused}
 use Rattle.numbers.specs.declared.number_cause.NumberCause.{NumberCause}
 use Rattle.numbers.specs.declared.number_reading.NumberRead.{NumberRead}
-use Rattle.faults.specs.declared.layer.FileCause.TheVariants.{CutOff, StrangeRecord, OutOfTurn}
+use Rattle.faults.specs.declared.file_cause.FileCause.TheVariants.{CutOff, StrangeRecord, OutOfTurn}
 use Rattle.trayfile.specs.Faults.{fault_at, number_fault}
 use Rattle.trayfile.specs.Kinds.{kind_number}
 use Rattle.trayfile.specs.Turns.{task_for}

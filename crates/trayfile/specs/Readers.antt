@@ -1,6 +1,6 @@
 -- The reader's answers. Assumes nothing.
 use Rattle.std.specs.Prelude.{◌≡◌, ℕ, ◌+◌, ◌<◌, cond, ◌⊎◌, List, [], ◌∷◌, map, length, drop, Some, None, Ok, Err, Option, Result, nat_lt}
-use Rattle.faults.specs.declared.layer.FileCause.TheVariants.{LongFile}
+use Rattle.faults.specs.declared.file_cause.FileCause.TheVariants.{LongFile}
 use Rattle.trayfile.specs.Faults.{fault_at}
 use Rattle.trayfile.specs.Entries.{Entry, entry_of, entry_bytes}
 use Rattle.trayfile.specs.Records.{EntryFirst, Follows, RecordIn, RecordRefused}

@@ -9,8 +9,8 @@ use Rattle.bodies.specs.CellBodies.{CellsIn, CellsRefused}
 use Rattle.bodies.specs.Notes.{PlainNote}
 use Rattle.bodies.specs.declared.card_body.TrayCard.{TrayCard}
 use Rattle.bodies.specs.declared.card_shape.CardShape.{CardShape}
-use Rattle.faults.specs.declared.layer.BodyFault.{BodyFault}
-use Rattle.faults.specs.declared.layer.BodyFault.TheVariants.{BadNote}
+use Rattle.faults.specs.declared.body_fault.BodyFault.{BodyFault}
+use Rattle.faults.specs.declared.body_fault.BodyFault.TheVariants.{BadNote}
 use Rattle.trayfile.specs.Faults.{body_fault}
 use Rattle.trayfile.specs.Kinds.{kind_number}
 use Rattle.trayfile.specs.Turns.{task_for}

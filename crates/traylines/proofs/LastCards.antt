@@ -5,7 +5,7 @@ use lib.ListN.{length-replicate}
 use Rattle.codes.specs.Code.{Code}
 use Rattle.codes.specs.Cells.{blank_cell}
 use Rattle.codes.specs.declared.cell.Cell.{Cell}
-use Rattle.faults.specs.declared.layer.BodyFault.{BodyFault}
+use Rattle.faults.specs.declared.body_fault.BodyFault.{BodyFault}
 use Rattle.bodies.specs.CardShapes.{tray_code, ShapeOf}
 use Rattle.bodies.specs.CellBodies.{CellsIn, CellsRefused}
 use Rattle.bodies.specs.SameCards.{SameCard}

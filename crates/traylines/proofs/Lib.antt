@@ -1,3 +1,2 @@
-pub mod WordTexts
 pub mod Advances
 pub mod LastCards

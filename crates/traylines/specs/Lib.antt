@@ -1,5 +1,4 @@
 pub mod Lines
-pub mod Words
 pub mod WordReading
 pub mod WordUnder
 pub mod LastCards

@@ -3,7 +3,7 @@ use Rattle.std.specs.Prelude.{ℕ, List, ◌++◌, codes, decimal}
 use Rattle.faults.specs.declared.layer.Layer.{Layer}
 use Rattle.faults.specs.declared.layer.Layer.TheVariants.{Field, Card, Tag, File}
 use Rattle.trayfile.specs.Faults.{fault_number}
-use Rattle.traylines.specs.Words.{word_text}
+use Rattle.codes.specs.WordText.{word_text}
 use Rattle.traylines.specs.declared.line.LostLine.{LostLine}
 use Rattle.traylines.specs.declared.line.EndLine.{EndLine}
 use Rattle.traylines.specs.declared.line.FaultLine.{FaultLine}

@@ -5,7 +5,6 @@ mod card_word;
 mod file_lines;
 mod line;
 mod report;
-mod word;
 mod word_read;
 mod word_reading;
 
@@ -13,6 +12,5 @@ pub use card_word::{UnderRefusal, word_under};
 pub use file_lines::{FileLines, Step};
 pub use line::{EndLine, FaultLine, LostLine, ReadLine};
 pub use report::print_lines;
-pub use word::Word;
 pub use word_read::WordRead;
 pub use word_reading::{WordRefusal, read_word};

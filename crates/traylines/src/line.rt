@@ -2,7 +2,7 @@
 ghost use Rattle.std.specs.Prelude.{Some};
 ghost use Rattle.traylines.specs.Lines.{lost_text, end_text, fault_text, read_text};
 
-use crate::word::Word;
+use codes::Word;
 use faults::Layer;
 use std::fmt;
 use trayfile::Fault;

@@ -3,7 +3,7 @@ ghost use Rattle.std.specs.Prelude.{◌≡◌, take};
 
 use crate::file_lines::{FileLines, Step};
 use crate::line::ReadLine;
-use crate::word::Word;
+use codes::Word;
 use crate::word_read::WordRead;
 
 // The line of a word that was read at a place.

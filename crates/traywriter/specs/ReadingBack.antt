@@ -11,7 +11,7 @@ use Rattle.bodies.specs.SameCards.{SameCard}
 use Rattle.bodies.specs.declared.card_body.TrayCard.{TrayCard}
 use Rattle.bodies.specs.declared.card_shape.CardShape.{CardShape}
 use Rattle.bodies.specs.declared.cells_refusal.CellsRefusal.{CellsRefusal}
-use Rattle.faults.specs.declared.layer.BodyFault.{BodyFault}
+use Rattle.faults.specs.declared.body_fault.BodyFault.{BodyFault}
 use Rattle.trayfile.specs.Entries.{Entry, entry, entry_bytes}
 use Rattle.trayfile.specs.Readers.{left_of, Next, ComesBack}
 use Rattle.trayfile.specs.declared.fault.Fault.{Fault}

@@ -4,7 +4,7 @@ use Rattle.std.proofs.lemmas.Bool.{ltb-true}
 use Rattle.std.proofs.lemmas.List.{length-map, get_or-map}
 use Rattle.codes.specs.Cells.{blank_cell, noted, noted_cell}
 use Rattle.codes.specs.declared.cell.Cell.{Cell}
-use Rattle.filling.specs.Encodings.{AllBelow}
+use Rattle.fields.specs.Elements.{AllBelow}
 use Rattle.lines.specs.Marks.{cell_of_mark}
 use Rattle.lines.specs.Lines.{lettered_cell, lettered_option, Marked}
 

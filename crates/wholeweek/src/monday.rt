@@ -3,7 +3,8 @@ ghost use Rattle.std.specs.Str.{chars};
 ghost use Rattle.algebra.specs.Meaning.{with_inverses};
 ghost use Rattle.fields.specs.Modulo.{modulo};
 ghost use Rattle.house.specs.HouseRows.{inked, row_code};
-ghost use Rattle.filling.specs.Encodings.{AllBelow, Encodes};
+ghost use Rattle.fields.specs.Elements.{AllBelow};
+ghost use Rattle.filling.specs.Encodings.{Encodes};
 ghost use Rattle.wholeweek.specs.Inked.{InkedBy, LettersOf};
 
 use crate::inspect::{CELLS, ROWS};

@@ -1,7 +1,8 @@
 use Rattle.std.proofs.Common.{◌≡◌, length, refl, ap, ◌∙◌, subst, ap₂, arith}
 use Rattle.codes.specs.Code.{Code, code_of}
 use Rattle.codes.specs.Cards.{card_code}
-use Rattle.filling.specs.Encodings.{encoding, AllBelow}
+use Rattle.fields.specs.Elements.{AllBelow}
+use Rattle.filling.specs.Encodings.{encoding}
 use Rattle.filling.proofs.EncodedWords.{encoded}
 use Rattle.filling.proofs.encoding.encode.Goals as goal
 

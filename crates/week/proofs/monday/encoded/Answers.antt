@@ -3,7 +3,8 @@ use Rattle.algebra.specs.Meaning.{Meaning, with_inverses}
 use Rattle.fields.specs.Modulo.{modulo}
 use Rattle.codes.specs.Code.{Code}
 use Rattle.house.specs.HouseRows.{inked, row_code}
-use Rattle.filling.specs.Encodings.{EncodeRefused, EncodeLengths, AllBelow}
+use Rattle.fields.specs.Elements.{AllBelow}
+use Rattle.filling.specs.Encodings.{EncodeRefused, EncodeLengths}
 use Rattle.filling.specs.declared.encode_refusal.EncodeRefusal.{EncodeRefusal}
 use Rattle.filling.specs.declared.encode_refusal.EncodeRefusal.TheVariants.{PartAlphabet, WrongLength, NoLetter}
 use Rattle.week.proofs.monday.encoded.Goals as goal

@@ -1,6 +1,6 @@
 // The letters of a word, each after a space.
 ghost use Rattle.std.specs.Prelude.{Some};
-ghost use Rattle.traylines.specs.Words.{word_text};
+ghost use Rattle.codes.specs.WordText.{word_text};
 
 use std::fmt;
 

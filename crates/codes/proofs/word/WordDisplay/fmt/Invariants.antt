@@ -1,7 +1,7 @@
 use Rattle.std.proofs.Common.{take}
 use Rattle.std.specs.Fmt.{IsPlainFormatter, HasWritten}
-use Rattle.traylines.specs.Words.{word_text}
-use Rattle.traylines.proofs.word.WordDisplay.fmt.Given as goal
+use Rattle.codes.specs.WordText.{word_text}
+use Rattle.codes.proofs.word.WordDisplay.fmt.Given as goal
 
 -- the letters so far are written
 abbrev pub invariant-loop-letter : goal.invariant-loop-letter

@@ -1,9 +1,9 @@
 use Rattle.std.proofs.Common.{refl, ap}
 use Rattle.std.proofs.Output.{writes_in_calls_nil, has_written_append, has_written_of_eq}
 use Rattle.std.proofs.lemmas.List.{take_all}
-use Rattle.traylines.specs.Words.{word_text}
-use Rattle.traylines.proofs.WordTexts.{word_more}
-use Rattle.traylines.proofs.word.WordDisplay.fmt.Goals as goal
+use Rattle.codes.specs.WordText.{word_text}
+use Rattle.codes.proofs.WordTexts.{word_more}
+use Rattle.codes.proofs.word.WordDisplay.fmt.Goals as goal
 
 pub loop-letter-init : goal.loop-letter-init
 loop-letter-init g c plain = record { wrote = writes_in_calls_nil g.W.Write.write_str_gives c.args.f.now.writer; plain = plain }

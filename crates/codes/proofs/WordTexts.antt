@@ -1,7 +1,7 @@
 -- The bytes of a word, letter by letter. Assumes nothing.
 use Rattle.std.proofs.Common.{◌≡◌, ℕ, ◌+◌, ◌<◌, List, [], ◌∷◌, ◌++◌, length, get_or, take, codes, decimal, sym, refl, ap, ◌∙◌}
 use Rattle.std.proofs.lemmas.List.{append_assoc, append-nil, take_more}
-use Rattle.traylines.specs.Words.{word_text}
+use Rattle.codes.specs.WordText.{word_text}
 
 word_append : (xs ys : List ℕ) → word_text (xs ++ ys) ≡ word_text xs ++ word_text ys
 word_append [] ys = refl

@@ -1,0 +1,61 @@
+// Why a body is refused.
+ghost use Rattle.std.specs.Prelude.{◌≡◌};
+ghost use Rattle.faults.specs.Layers.{body_fault_number};
+ghost use Rattle.faults.specs.declared.field_fault.FieldFault.TheVariants.{NoSuchField as no_such_field, Made as not_made};
+ghost use Rattle.faults.specs.declared.body_fault.BodyFault.TheVariants.{Field as field_fault, Card as card_fault};
+
+use crate::field_fault::FieldFault;
+use crate::tag_cause::TagCause;
+use codes::CardCause;
+use fields::{FieldCause, NoSuchField};
+
+// A bad number begins so many bytes after the body's first.
+#[derive(Clone, Copy)]
+pub enum BodyFault {
+    BadNumber(usize),
+    BadBody,
+    BadNote,
+    Field(FieldFault),
+    Card(CardCause),
+    Tag(TagCause),
+}
+
+impl BodyFault {
+    pub fn number(self) -> u32
+        ensures { result ≡ body_fault_number self }
+    {
+        match self {
+            BodyFault::BadNumber(_) => 32,
+            BodyFault::BadBody => 35,
+            BodyFault::BadNote => 36,
+            BodyFault::Field(fault) => fault.number(),
+            BodyFault::Card(cause) => cause.number(),
+            BodyFault::Tag(cause) => cause.number(),
+        }
+    }
+}
+
+// No field kind has the number that a card names.
+impl From<NoSuchField> for BodyFault {
+    ghost from_gives = { λ _ fault. fault ≡ field_fault no_such_field };
+
+    fn from(_cause: NoSuchField) -> BodyFault {
+        BodyFault::Field(FieldFault::NoSuchField)
+    }
+}
+
+impl From<FieldCause> for BodyFault {
+    ghost from_gives = { λ cause fault. fault ≡ field_fault (not_made cause) };
+
+    fn from(cause: FieldCause) -> BodyFault {
+        BodyFault::Field(FieldFault::Made(cause))
+    }
+}
+
+impl From<CardCause> for BodyFault {
+    ghost from_gives = { λ cause fault. fault ≡ card_fault cause };
+
+    fn from(cause: CardCause) -> BodyFault {
+        BodyFault::Card(cause)
+    }
+}
