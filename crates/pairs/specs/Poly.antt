@@ -5,9 +5,13 @@ use Rattle.algebra.specs.Limits.{coefficients}
 use Rattle.algebra.specs.Meaning.{Arithmetic}
 use Rattle.pairs.specs.declared.poly.Poly.{Poly}
 
+-- the value at j up to m, and 0 above
+abbrev pub cut : ℕ → (ℕ → ℕ) → ℕ → ℕ
+cut m f j = cond (nat_le j m) (f j) 0
+
 -- the given coefficients up to that of X^m, and zeros above
 unfoldable pub up_to : ℕ → (ℕ → ℕ) → Poly
-up_to m f = record { coeffs = map (λ j. cond (nat_le j m) (f j) 0) (range_with_len 0 coefficients) }
+up_to m f = record { coeffs = map (cut m f) (range_with_len 0 coefficients) }
 
 -- the polynomial x, of degree 0
 abbrev pub constant : ℕ → Poly

@@ -5,9 +5,9 @@ ghost use Rattle.algebra.specs.Realisation.{applied};
 ghost use Rattle.pairs.specs.MinimalPair.{start, changed, stepped_poly, updated, stepped, Counted, Realised, MinimalAnswer, realise_number};
 ghost use Rattle.pairs.specs.WorkedPairs.{WorkedPairs};
 
-use crate::poly::{Poly, combine};
+use crate::poly::{Combination, Poly};
 use algebra::{COEFFICIENTS, LONGEST_SEQUENCE};
-use fields::Field;
+use fields::{Field, all_below};
 use thiserror::Error;
 
 #[derive(Clone, Copy, PartialEq, Eq, Debug, Error)]
@@ -90,16 +90,15 @@ impl State {
         requires small { self.now.degree < coefficients }
         ensures { result ≡ stepped_poly (F.Field.meaning field.now).arithmetic discrepancy self.now p.now q.now }
     {
-        let d = self.d as usize;
-        combine(
-            field,
-            self.kept_discrepancy,
+        Combination {
+            a: self.kept_discrepancy,
             p,
-            discrepancy,
-            d,
+            b: discrepancy,
+            d: self.d as usize,
             q,
-            self.degree,
-        )
+            degree: self.degree,
+        }
+        .over(field)
     }
 
     // The new pair: kept discrepancy × pair − discrepancy × X^d × kept pair.
@@ -147,8 +146,8 @@ fn apply<F: Field>(field: &F, f: &Poly, degree: usize, sequence: &[u32], k: usiz
     ensures { result ≡ applied (F.Field.meaning field.now).arithmetic f.now.coeffs degree sequence.now k }
 {
     let mut sum = 0;
-    for j in 0..degree + 1 {
-        sum = field.add(sum, field.mul(f.coeffs[j], sequence[k + j]));
+    for (coefficient, x) in f.coeffs[..=degree].iter().zip(&sequence[k..]) {
+        sum = field.add(sum, field.mul(*coefficient, *x));
     }
     sum
 }
@@ -166,13 +165,11 @@ pub fn realise<F: Field>(
     if sequence.len() > LONGEST_SEQUENCE || f.len() != COEFFICIENTS || w.len() != COEFFICIENTS {
         return Err(RealiseRefusal::WrongLength);
     }
-    let size = field.size();
-    for x in sequence {
-        if *x >= size {
-            return Err(RealiseRefusal::NoElement);
-        }
+    if !all_below(sequence, field.size()) {
+        return Err(RealiseRefusal::NoElement);
     }
     let mut state = State::new(field);
+    // A step takes the place, since it reads the sequence from there back.
     for i in 0..sequence.len() {
         state = state.step(field, sequence, i);
     }

@@ -1,11 +1,13 @@
 // Polynomials over a field, in arrays that never grow.
 ghost use Rattle.std.specs.Prelude.{◌≡◌, ◌<◌};
 ghost use Rattle.algebra.specs.Limits.{coefficients};
-ghost use Rattle.pairs.specs.Poly.{constant, coefficient, combined};
+ghost use Rattle.pairs.specs.Poly.{constant, cut, coefficient, combined};
 
 use algebra::COEFFICIENTS;
 use fields::Field;
+use std::array;
 
+// Not the `Polynomial` of `filling`: the degree here is that of a pair, and every place is handed out.
 #[derive(Clone, Copy)]
 pub struct Poly {
     // The constant term first, and zeros above the degree.
@@ -23,34 +25,39 @@ impl Poly {
 }
 
 // a × p − b × X^d × q up to X^degree.
-pub fn combine<F: Field>(
-    field: &F,
-    a: u32,
-    p: &Poly,
-    b: u32,
-    d: usize,
-    q: &Poly,
-    degree: usize,
-) -> Poly
-    requires { degree < coefficients }
-    ensures { result ≡ combined (F.Field.meaning field.now).arithmetic a p.now b d q.now degree }
-{
-    let mut coeffs = [0; COEFFICIENTS];
-    for j in 0..degree + 1 {
-        coeffs[j] = combine_at(field, a, p, b, d, q, j);
-    }
-    Poly { coeffs }
+#[derive(Clone, Copy)]
+pub struct Combination<'a> {
+    pub a: u32,
+    pub p: &'a Poly,
+    pub b: u32,
+    pub d: usize,
+    pub q: &'a Poly,
+    pub degree: usize,
 }
 
-// The coefficient of X^j in a × p − b × X^d × q.
-fn combine_at<F: Field>(field: &F, a: u32, p: &Poly, b: u32, d: usize, q: &Poly, j: usize) -> u32
-    requires { j < coefficients }
-    ensures { result ≡ coefficient (F.Field.meaning field.now).arithmetic a p.now b d q.now j }
-{
-    let scaled = field.mul(a, p.coeffs[j]);
-    if j < d {
-        scaled
-    } else {
-        field.sub(scaled, field.mul(b, q.coeffs[j - d]))
+impl<'a> Combination<'a> {
+    pub fn over<F: Field>(&self, field: &F) -> Poly
+        requires { self.now.degree < coefficients }
+        ensures { result ≡ combined (F.Field.meaning field.now).arithmetic self.now.a self.now.p.now self.now.b self.now.d self.now.q.now self.now.degree }
+    {
+        Poly {
+            coeffs: array::from_fn(|j| self.coefficient(field, j)),
+        }
+    }
+
+    // The coefficient of X^j.
+    fn coefficient<F: Field>(&self, field: &F, j: usize) -> u32
+        requires { self.now.degree < coefficients }
+        ensures { result ≡ cut self.now.degree (coefficient (F.Field.meaning field.now).arithmetic self.now.a self.now.p.now self.now.b self.now.d self.now.q.now) j }
+    {
+        if j > self.degree {
+            return 0;
+        }
+        let scaled = field.mul(self.a, self.p.coeffs[j]);
+        if j < self.d {
+            scaled
+        } else {
+            field.sub(scaled, field.mul(self.b, self.q.coeffs[j - self.d]))
+        }
     }
 }

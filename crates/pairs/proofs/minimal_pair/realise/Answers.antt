@@ -1,5 +1,6 @@
-use Rattle.std.proofs.Common.{◌≡◌, ℕ, suc, ◌<◌, ◌≤◌, List, length, get_or, sym, ap, ◌∙◌, subst, subst₂, add-one, arith}
+use Rattle.std.proofs.Common.{◌≡◌, ℕ, suc, ◌≤◌, List, length, refl, sym, ap, ◌∙◌, subst, subst₂, add-one, arith}
 use mathlib.Core.Path.{subst⁻¹}
+use Rattle.fields.specs.Elements.{AllBelow}
 use Rattle.algebra.specs.Limits.{longest_sequence}
 use Rattle.algebra.specs.Meaning.{Arithmetic}
 use Rattle.pairs.specs.declared.minimal_pair.State.{State}
@@ -41,7 +42,7 @@ returns g c =
     let short : length s ≤ longest_sequence = omega arith in
     let whole : c.loop-i.i ≡ length s = omega arith in
     let last : c.loop-i.state ≡ state_after A s (length s) = c.loop-i.invariant ∙ ap (state_after A s) whole in
-    let elements : OfElements A s = λ k h. subst (λ (n : ℕ). get_or s k 0 < n) c.size-size.ensures (c.loop-x.invariant k (omega arith)) in
+    let elements : OfElements A s = subst (λ (n : ℕ). AllBelow n s) c.size.ensures (c.if-not-all_below.ensures.0 refl) in
     record {
       pinned = (
         record { sequence_short = short; f_places = omega arith; w_places = omega arith },
