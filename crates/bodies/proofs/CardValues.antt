@@ -1,7 +1,5 @@
 -- A card's values against the body that they stand in. Assumes nothing.
-use Rattle.std.proofs.Common.{◌≡◌, ℕ, ◌+◌, List, ◌∷◌, ◌++◌, length, take, drop, sym, ap, ◌∙◌, subst, arith}
-use Rattle.std.proofs.lemmas.List.{length-take-le}
-use Rattle.algebra.specs.Limits.{largest_cells}
+use Rattle.std.proofs.Common.{◌≡◌, ℕ, ◌+◌, List, ◌∷◌, ◌++◌, length, drop, sym, ap, ◌∙◌, subst, arith}
 use Rattle.algebra.specs.Meaning.{Meaning}
 use Rattle.algebra.specs.Alphabet.{Alphabet}
 use Rattle.codes.specs.Code.{Code}
@@ -62,22 +60,16 @@ module _ (head : CardHead) (body : List ℕ) (begins : Begins (head_numbers head
 -- the values of a head with two lists
 module _ (m : Meaning) (head : CardHead) (body : List ℕ) (begins : Begins (head_numbers head) body) (end : ℕ)
     (is : end ≡ length (numbers (head_numbers head))) (fits : HeadFits m head) where
-  pub values_are : (code : Code) (locators multipliers : List ℕ) → code.letters ≡ head.letters → code.rows ≡ head.rows →
-      code.locators ≡ take head.cells locators → code.multipliers ≡ take head.cells multipliers →
-      length locators ≡ largest_cells → length multipliers ≡ largest_cells →
-      Are (take head.cells locators ++ take head.cells multipliers) (drop end body) → Values m head body code
-  values_are code locators multipliers letters rows first second long long-2 are =
-      let most = fits.shape.most_cells in
-      let count : length code.locators ≡ head.cells = ap length first ∙ length-take-le head.cells locators (omega arith) in
-      let here : Are (code.locators ++ code.multipliers) (after (head_numbers head) body) =
-      subst (λ n. Are (code.locators ++ code.multipliers) (drop n body)) is
-      (subst (λ (l : List ℕ). Are (l ++ code.multipliers) (drop end body)) (sym first) (subst (λ (l : List ℕ). Are (take head.cells locators ++ l) (drop end body)) (sym second) are)) in
+  pub values_are : (code : Code) → code.letters ≡ head.letters → code.rows ≡ head.rows → length code.locators ≡ head.cells →
+      length code.multipliers ≡ head.cells → Are (code.locators ++ code.multipliers) (drop end body) → Values m head body code
+  values_are code letters rows first second are =
+      let here = subst (λ n. Are (code.locators ++ code.multipliers) (drop n body)) is are in
       record {
         fits = fits;
         letters = letters;
         rows = rows;
-        locators = count;
-        multipliers = ap length second ∙ length-take-le head.cells multipliers (omega arith);
+        locators = first;
+        multipliers = second;
         lists = here;
-        written = card_written head body begins code here letters rows count;
+        written = card_written head body begins code here letters rows first;
       }

@@ -16,7 +16,10 @@ use Rattle.fields.specs.declared.cause.FieldCause.TheVariants.{NoPrime, BadModul
 use Rattle.fields.specs.ListedPrimes.{listed_small}
 use Rattle.fields.specs.PolynomialDegrees.{degree_unique}
 use Rattle.codes.specs.Code.{Code}
-use Rattle.codes.specs.Cards.{Checked, LocatorsFit, MultipliersFit, card_code}
+use Rattle.codes.specs.Cards.{card_code}
+use Rattle.codes.specs.Checked.{Checked, LocatorsFit, MultipliersFit}
+use Rattle.fields.specs.contracts.prime_field.arithmetic.PrimeFieldField.TheImpl as prime_field
+use Rattle.fields.specs.contracts.binary_field.arithmetic.BinaryFieldField.TheImpl as binary_field
 use Rattle.fields.specs.Kinds.{prime_kind, binary_kind}
 use Rattle.numbers.specs.Numbers.{largest_number}
 use Rattle.faults.specs.declared.body_fault.BodyFault.{BodyFault}
@@ -24,8 +27,8 @@ use Rattle.faults.specs.declared.body_fault.BodyFault.TheVariants.{BadNumber, Ba
 use Rattle.faults.specs.declared.field_fault.FieldFault.TheVariants.{NoSuchField, Made}
 use Rattle.codes.specs.declared.card_cause.CardCause.TheVariants.{BadShape, NoAlphabet, BadLocator, BadMultiplier}
 use Rattle.bodies.specs.declared.card_head.CardHead.{CardHead}
-use Rattle.bodies.specs.declared.card_body.TrayCard.{TrayCard}
-use Rattle.bodies.specs.declared.card_body.TrayCard.TheVariants.{Prime, Binary}
+use Rattle.codes.specs.declared.any_card.AnyCard.{AnyCard}
+use Rattle.codes.specs.declared.any_card.AnyCard.TheVariants.{Prime, Binary}
 use Rattle.bodies.specs.NumberLists.{numbers, Small, after, Begins}
 use Rattle.bodies.specs.WholeLists.{Are}
 use Rattle.bodies.specs.CardHeads.{head_count, head_numbers, HeadShape, PrimeHead, BinaryHead}
@@ -162,7 +165,7 @@ module _ (body : List ℕ) (m n : Meaning) (kind origin other-kind other-origin 
 never_kinds : (n : ℕ) → n ≡ prime_kind → n ≡ binary_kind → ⊥
 never_kinds n e f = omega (arith, e, f)
 
-module _ (body : List ℕ) (card : cards.Card PrimeField) (is : PrimeCardIn body card) where
+module _ (body : List ℕ) (card : cards.Card PrimeField prime_field.ghosts) (is : PrimeCardIn body card) where
   prime_origin : card.field.prime ≤ largest_number
   prime_origin = omega (arith, listed_small card.field.prime card.field.listed)
 
@@ -198,7 +201,7 @@ module _ (body : List ℕ) (card : cards.Card PrimeField) (is : PrimeCardIn body
   pub prime_never : (fault : BodyFault) → HeadRefused body fault ⊎ RestRefused body fault → ⊥
   prime_never fault refused = ⊎_elim (prime_head_never fault) (prime_rest_never fault) refused
 
-module _ (body : List ℕ) (card : cards.Card BinaryField) (is : BinaryCardIn body card) where
+module _ (body : List ℕ) (card : cards.Card BinaryField binary_field.ghosts) (is : BinaryCardIn body card) where
   binary_origin : card.field.modulus ≤ largest_number
   binary_origin = omega (arith, card.field.bounded)
 
@@ -245,7 +248,7 @@ module _ (body : List ℕ) (card : cards.Card BinaryField) (is : BinaryCardIn bo
   binary_never fault refused = ⊎_elim (binary_head_never fault) (binary_rest_never fault) refused
 
 -- the body of a card is not refused
-pub card_never : (body : List ℕ) (card : TrayCard) (fault : BodyFault) → CardIn body card → CardRead body (Err fault) → ⊥
+pub card_never : (body : List ℕ) (card : AnyCard) (fault : BodyFault) → CardIn body card → CardRead body (Err fault) → ⊥
 card_never body (Prime card) fault is refused = prime_never body card is fault refused
 card_never body (Binary card) fault is refused = binary_never body card is fault refused
 

@@ -9,7 +9,11 @@ use Rattle.fields.specs.declared.prime_field.PrimeField.{PrimeField}
 use Rattle.fields.specs.declared.binary_field.BinaryField.{BinaryField}
 use Rattle.fields.specs.declared.cause.FieldCause.TheVariants.{NoPrime, BadModulus}
 use Rattle.codes.specs.Code.{Code}
-use Rattle.codes.specs.Cards.{Checked, LocatorsFit, MultipliersFit, card_code}
+use Rattle.codes.specs.Cards.{card_code}
+use Rattle.codes.specs.Checked.{Checked, LocatorsFit, MultipliersFit}
+use Rattle.fields.specs.declared.field.Field.{Ghosts}
+use Rattle.fields.specs.contracts.prime_field.arithmetic.PrimeFieldField.TheImpl as prime_field
+use Rattle.fields.specs.contracts.binary_field.arithmetic.BinaryFieldField.TheImpl as binary_field
 use Rattle.fields.specs.Kinds.{prime_kind, binary_kind}
 use Rattle.codes.specs.declared.card.Card as cards
 use Rattle.codes.specs.declared.card_cause.CardCause.TheVariants.{BadShape, NoAlphabet, BadLocator, BadMultiplier}
@@ -21,8 +25,8 @@ use Rattle.faults.specs.declared.body_fault.BodyFault.TheVariants.{BadNumber, Ba
 use Rattle.faults.specs.declared.field_fault.FieldFault.TheVariants.{NoSuchField, Made}
 use Rattle.bodies.specs.declared.card_head.CardHead.{CardHead}
 use Rattle.bodies.specs.declared.card_head.ReadHead.{ReadHead}
-use Rattle.bodies.specs.declared.card_body.TrayCard.{TrayCard}
-use Rattle.bodies.specs.declared.card_body.TrayCard.TheVariants.{Prime, Binary}
+use Rattle.codes.specs.declared.any_card.AnyCard.{AnyCard}
+use Rattle.codes.specs.declared.any_card.AnyCard.TheVariants.{Prime, Binary}
 
 -- The body of a card: field kind, what the field is made from, Q, n, r, the locators, the multipliers.
 abbrev pub card_body : ℕ → ℕ → Code → List ℕ
@@ -60,7 +64,7 @@ ValuesRefused m head body (Field fault) = ⊥
 ValuesRefused m head body (Tag cause) = ⊥
 
 -- The card over the field that its head names: the body is the card's own, byte for byte, or the first broken rule is answered.
-abbrev pub CardOver : {F : Type 0} → Meaning → F → CardHead → List ℕ → Result (cards.Card F) BodyFault → Type 0
+abbrev pub CardOver : {F : Type 0} {g : Ghosts F} → Meaning → F → CardHead → List ℕ → Result (cards.Card F g) BodyFault → Type 0
 CardOver m field head body (Ok card) =
     (card.field ≡ field) × Checked m (card_code card) × (body ≡ card_body head.kind head.origin (card_code card))
 CardOver m field head body (Err fault) = ValuesRefused m head body fault
@@ -88,19 +92,19 @@ pub record RestRefused (body : List ℕ) (fault : BodyFault) : Type 0 where
   pub refused : ValuesRefused meaning head body fault
 
 -- the card is checked, and the body is its own, byte for byte
-pub record PrimeCardIn (body : List ℕ) (card : cards.Card PrimeField) : Type 0 where
+pub record PrimeCardIn (body : List ℕ) (card : cards.Card PrimeField prime_field.ghosts) : Type 0 where
   pub checked : Checked (prime_meaning card.field) (card_code card)
   pub written : body ≡ card_body prime_kind card.field.prime (card_code card)
 
-pub record BinaryCardIn (body : List ℕ) (card : cards.Card BinaryField) : Type 0 where
+pub record BinaryCardIn (body : List ℕ) (card : cards.Card BinaryField binary_field.ghosts) : Type 0 where
   pub checked : Checked (binary_meaning card.field) (card_code card)
   pub written : body ≡ card_body binary_kind card.field.modulus (card_code card)
 
-abbrev pub CardIn : List ℕ → TrayCard → Type 0
+abbrev pub CardIn : List ℕ → AnyCard → Type 0
 CardIn body (Prime card) = PrimeCardIn body card
 CardIn body (Binary card) = BinaryCardIn body card
 
 -- The checked card whose body this is, or the first broken rule.
-abbrev pub CardRead : List ℕ → Result TrayCard BodyFault → Type 0
+abbrev pub CardRead : List ℕ → Result AnyCard BodyFault → Type 0
 CardRead body (Ok card) = CardIn body card
 CardRead body (Err fault) = HeadRefused body fault ⊎ RestRefused body fault

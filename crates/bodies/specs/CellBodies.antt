@@ -1,6 +1,6 @@
 -- The bodies of cells records. Assumes nothing.
-use Rattle.std.specs.Prelude.{◌≡◌, ℕ, zero, suc, ◌+◌, ◌<◌, ◌≤◌, List, map, length, take, Some, None, Ok, Err, Option, Result, ◌≢◌, slice_index}
-use Rattle.algebra.specs.Limits.{largest_cells}
+use Rattle.std.specs.Prelude.{◌≡◌, ℕ, zero, suc, ◌+◌, ◌<◌, ◌≤◌, List, map, length, Some, None, Ok, Err, Option, Result, ◌≢◌, slice_index}
+use Rattle.arrayvec.specs.ArrayVec.{ArrayVec}
 use Rattle.codes.specs.Code.{Code}
 use Rattle.codes.specs.Cells.{blank_cell, noted_cell}
 use Rattle.codes.specs.Verdicts.{Lettered}
@@ -10,7 +10,6 @@ use Rattle.bodies.specs.WholeLists.{ListRefused, Are}
 use Rattle.faults.specs.declared.body_fault.BodyFault.{BodyFault}
 use Rattle.faults.specs.declared.body_fault.BodyFault.TheVariants.{BadNumber, BadBody, BadNote, Field, Card, Tag}
 use Rattle.faults.specs.declared.tag_cause.TagCause.TheVariants.{NoLetter}
-use Rattle.bodies.specs.declared.number_list.NumberList.{NumberList}
 use Rattle.bodies.specs.declared.cells_refusal.CellsRefusal.{CellsRefusal}
 use Rattle.bodies.specs.declared.cells_refusal.CellsRefusal.TheVariants.{WrongLength, Body}
 
@@ -61,9 +60,9 @@ CellsRefused n letters body BadNote = ⊥
 CellsRefused n letters body (Field fault) = ⊥
 CellsRefused n letters body (Card cause) = ⊥
 
-abbrev pub CellNumbersRead : ℕ → ℕ → List ℕ → Result NumberList BodyFault → Type 0
+abbrev pub CellNumbersRead : ℕ → ℕ → List ℕ → Result (ArrayVec ℕ) BodyFault → Type 0
 CellNumbersRead n letters body (Ok list) =
-    Are (take n list.values) body × UpTo letters (take n list.values) × (length list.values ≡ largest_cells)
+    Are list.items body × UpTo letters list.items × (length list.items ≡ n)
 CellNumbersRead n letters body (Err fault) = CellsRefused n letters body fault
 
 -- Some cells have this body, or it is refused.

@@ -1,6 +1,5 @@
 -- Numbers that stand one after another in a body. Assumes nothing.
-use Rattle.std.specs.Prelude.{◌≡◌, ℕ, ◌+◌, ◌<◌, ◌≤◌, List, [], ◌∷◌, ◌++◌, length, take, drop, Ok, Err, Result}
-use Rattle.algebra.specs.Limits.{largest_cells}
+use Rattle.std.specs.Prelude.{◌≡◌, ℕ, ◌+◌, ◌<◌, ◌≤◌, List, [], ◌∷◌, ◌++◌, length, drop, Ok, Err, Result}
 use Rattle.numbers.specs.Numbers.{largest_number, number_bytes}
 use Rattle.numbers.specs.NumberReading.{StandsFirst, EndsInside, NoNumber}
 use Rattle.numbers.specs.declared.number_reading.NumberRead.{NumberRead}
@@ -47,9 +46,9 @@ NumberMissing start wanted bytes (Tag cause) = ⊥
 -- So many numbers stand first, with the place after them, or one of them is missing.
 abbrev pub ListRead : List ℕ → ℕ → ℕ → Result NumberList BodyFault → Type 0
 ListRead bytes start count (Ok list) =
-    Begins (take count list.values) bytes
-    × (list.end ≡ start + length (numbers (take count list.values)))
-    × (length list.values ≡ largest_cells)
+    Begins list.values.items bytes
+    × (list.end ≡ start + length (numbers list.values.items))
+    × (length list.values.items ≡ count)
 ListRead bytes start count (Err fault) = NumberMissing start count bytes fault
 
 -- the number that stands first in a body's bytes from a place on

@@ -7,11 +7,11 @@ use Rattle.bodies.specs.CardBodies.{CardIn, CardRead}
 use Rattle.bodies.specs.CellBodies.{CellsIn, CellsReadInto}
 use Rattle.faults.specs.declared.body_fault.BodyFault.{BodyFault}
 use Rattle.bodies.specs.declared.cells_refusal.CellsRefusal.{CellsRefusal}
-use Rattle.bodies.specs.declared.card_body.TrayCard.{TrayCard}
-use Rattle.bodies.specs.declared.card_body.TrayCard.TheVariants.{Prime, Binary}
+use Rattle.codes.specs.declared.any_card.AnyCard.{AnyCard}
+use Rattle.codes.specs.declared.any_card.AnyCard.TheVariants.{Prime, Binary}
 
 -- cards over the same field with the same values
-abbrev pub SameCard : TrayCard → TrayCard → Type 0
+abbrev pub SameCard : AnyCard → AnyCard → Type 0
 SameCard (Prime a) (Prime b) = (a.field.prime ≡ b.field.prime) × (card_code a ≡ card_code b)
 SameCard (Binary a) (Binary b) = (a.field.modulus ≡ b.field.modulus) × (card_code a ≡ card_code b)
 SameCard (Prime a) (Binary b) = ⊥
@@ -19,8 +19,8 @@ SameCard (Binary a) (Prime b) = ⊥
 
 -- What is read from a card's body is that card.
 abbrev pub CardReadsBack : Type 0
-CardReadsBack = (body : List ℕ) (card : TrayCard) (r : Result TrayCard BodyFault) → CardIn body card → CardRead body r →
-    (found : TrayCard) × (r ≡ Ok found) × SameCard card found
+CardReadsBack = (body : List ℕ) (card : AnyCard) (r : Result AnyCard BodyFault) → CardIn body card → CardRead body r →
+    (found : AnyCard) × (r ≡ Ok found) × SameCard card found
 
 -- What is read from the body of cells, into a buffer that is long enough, is those cells.
 abbrev pub CellsReadBack : Type 0

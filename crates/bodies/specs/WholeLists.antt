@@ -1,11 +1,10 @@
 -- Lists of numbers that end where the body ends. Assumes nothing.
-use Rattle.std.specs.Prelude.{◌≡◌, ℕ, ◌+◌, ◌<◌, ◌⊎◌, List, ◌++◌, length, take, Ok, Err, Result}
-use Rattle.algebra.specs.Limits.{largest_cells}
+use Rattle.std.specs.Prelude.{◌≡◌, ℕ, ◌+◌, ◌<◌, ◌⊎◌, List, ◌++◌, length, Ok, Err, Result}
+use Rattle.arrayvec.specs.ArrayVec.{ArrayVec}
 use Rattle.numbers.specs.NumberReading.{EndsInside, NoNumber}
 use Rattle.bodies.specs.NumberLists.{numbers, Small, after, Begins, Stops}
 use Rattle.faults.specs.declared.body_fault.BodyFault.{BodyFault}
 use Rattle.faults.specs.declared.body_fault.BodyFault.TheVariants.{BadNumber, BadBody, BadNote, Field, Card, Tag}
-use Rattle.bodies.specs.declared.number_list.NumberList.{NumberList}
 use Rattle.bodies.specs.declared.whole_lists.TwoLists.{TwoLists}
 
 -- the bytes go on after so many numbers
@@ -30,12 +29,12 @@ pub record Are (vs bytes : List ℕ) : Type 0 where
   pub small : Small vs
   pub bytes_are : bytes ≡ numbers vs
 
-abbrev pub WholeListRead : List ℕ → ℕ → ℕ → Result NumberList BodyFault → Type 0
-WholeListRead bytes start count (Ok list) = Are (take count list.values) bytes × (length list.values ≡ largest_cells)
+abbrev pub WholeListRead : List ℕ → ℕ → ℕ → Result (ArrayVec ℕ) BodyFault → Type 0
+WholeListRead bytes start count (Ok list) = Are list.items bytes × (length list.items ≡ count)
 WholeListRead bytes start count (Err fault) = ListRefused start count bytes fault
 
 abbrev pub TwoListsRead : List ℕ → ℕ → ℕ → Result TwoLists BodyFault → Type 0
 TwoListsRead bytes start count (Ok lists) =
-    Are (take count lists.locators ++ take count lists.multipliers) bytes
-    × (length lists.locators ≡ largest_cells) × (length lists.multipliers ≡ largest_cells)
+    Are (lists.locators.items ++ lists.multipliers.items) bytes
+    × (length lists.locators.items ≡ count) × (length lists.multipliers.items ≡ count)
 TwoListsRead bytes start count (Err fault) = ListRefused start (count + count) bytes fault

@@ -2,7 +2,7 @@
 ghost use Rattle.std.specs.Prelude.{◌≡◌, ℕ, Decides};
 ghost use Rattle.bodies.specs.CardHeads.{HeadRead, HeadShape};
 
-use crate::number_list::read_list;
+use crate::number_list::ListAt;
 use algebra::{LARGEST_CELLS, LARGEST_ROWS};
 use faults::BodyFault;
 
@@ -29,8 +29,13 @@ const HEAD_NUMBERS: usize = 5;
 pub fn read_head(body: &[u8]) -> Result<ReadHead, BodyFault>
     ensures { HeadRead body.now result }
 {
-    let list = read_list(body, 0, HEAD_NUMBERS)?;
-    let values = list.values;
+    let numbers = ListAt {
+        body,
+        start: 0,
+        count: HEAD_NUMBERS,
+    };
+    let list = numbers.read()?;
+    let values = list.values.as_slice();
     Ok(ReadHead {
         head: CardHead {
             kind: values[0],

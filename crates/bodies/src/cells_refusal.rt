@@ -1,13 +1,17 @@
 // Why cells are not read into a buffer.
 ghost use Rattle.std.specs.Prelude.{◌≡◌};
 ghost use Rattle.bodies.specs.CellRefusals.{cells_refusal_number};
+ghost use Rattle.bodies.specs.declared.cells_refusal.CellsRefusal.TheVariants.{Body as body_refusal};
 
 use faults::BodyFault;
+use thiserror::Error;
 
-#[derive(Clone, Copy)]
+#[derive(Clone, Copy, PartialEq, Eq, Debug, Error)]
 pub enum CellsRefusal {
     // The buffer is not n long.
+    #[error("wrong length")]
     WrongLength,
+    #[error(transparent)]
     Body(BodyFault),
 }
 
@@ -19,5 +23,13 @@ impl CellsRefusal {
             CellsRefusal::WrongLength => 25,
             CellsRefusal::Body(fault) => fault.number(),
         }
+    }
+}
+
+impl From<BodyFault> for CellsRefusal {
+    ghost from_gives = { λ fault refusal. refusal ≡ body_refusal fault };
+
+    fn from(fault: BodyFault) -> CellsRefusal {
+        CellsRefusal::Body(fault)
     }
 }

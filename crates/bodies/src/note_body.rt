@@ -7,13 +7,5 @@ use crate::limits::LONGEST_NOTE;
 pub fn is_plain(body: &[u8]) -> bool
     ensures { Decides result (PlainNote body.now) }
 {
-    if body.len() > LONGEST_NOTE {
-        return false;
-    }
-    for byte in body {
-        if *byte < 32 || *byte > 126 {
-            return false;
-        }
-    }
-    true
+    body.len() <= LONGEST_NOTE && body.iter().all(|byte| 32 <= *byte && *byte <= 126)
 }

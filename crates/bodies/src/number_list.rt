@@ -4,37 +4,47 @@ ghost use Rattle.algebra.specs.Limits.{largest_cells};
 ghost use Rattle.bodies.specs.NumberLists.{NumberIn, ListRead};
 
 use algebra::LARGEST_CELLS;
+use arrayvec::ArrayVec;
 use faults::BodyFault;
 use numbers::{NumberCause, NumberRead, read_number};
 
-// The numbers, in the first places, and the place after the last of them.
+// Where a list is looked for: so many numbers, from a place of the body on.
 #[derive(Clone, Copy)]
+pub struct ListAt<'a> {
+    pub body: &'a [u8],
+    pub start: usize,
+    pub count: usize,
+    ghost few: { count ≤ largest_cells },
+}
+
+// The numbers, and the place after the last of them.
+#[derive(Drop)]
 pub struct NumberList {
-    pub values: [u32; LARGEST_CELLS],
+    pub values: ArrayVec<u32, LARGEST_CELLS>,
     pub end: usize,
 }
 
-pub fn read_list(body: &[u8], start: usize, count: usize) -> Result<NumberList, BodyFault>
-    requires { count ≤ largest_cells }
-    ensures { ListRead (drop start body.now) start count result }
-{
-    let mut values = [0; LARGEST_CELLS];
-    let mut end = start;
-    for j in 0..count {
-        let read = number_in(body, end)?;
-        values[j] = read.value;
-        end = read.end;
+impl<'a> ListAt<'a> {
+    pub fn read(self) -> Result<NumberList, BodyFault>
+        ensures { ListRead (drop self.entry.start self.entry.body.now) self.entry.start self.entry.count result }
+    {
+        let mut values = ArrayVec::new();
+        let mut place = self.start;
+        for _ in 0..self.count {
+            let read = number_in(self.body, place)?;
+            values.push(read.value);
+            place = read.end;
+        }
+        Ok(NumberList { values, end: place })
     }
-    Ok(NumberList { values, end })
 }
 
 // A number of a body. The body is too short where it ends inside the number.
 fn number_in(body: &[u8], start: usize) -> Result<NumberRead, BodyFault>
     ensures { NumberIn (drop start body.now) start result }
 {
-    match read_number(body, start) {
-        Ok(read) => Ok(read),
-        Err(NumberCause::CutOff) => Err(BodyFault::BadBody),
-        Err(NumberCause::BadNumber) => Err(BodyFault::BadNumber(start)),
-    }
+    read_number(body, start).map_err(|cause| match cause {
+        NumberCause::CutOff => BodyFault::BadBody,
+        NumberCause::BadNumber => BodyFault::BadNumber(start),
+    })
 }

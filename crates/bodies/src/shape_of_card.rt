@@ -1,29 +1,27 @@
 // The shape of a card that was read.
 ghost use Rattle.std.specs.Prelude.{◌≡◌, length};
+ghost use Rattle.codes.specs.AnyCards.{any_code};
 ghost use Rattle.codes.specs.Cards.{card_code};
-ghost use Rattle.bodies.specs.CardShapes.{tray_code, ShapeOf};
+ghost use Rattle.bodies.specs.CardShapes.{ShapeOf};
 
-use crate::card_body::TrayCard;
 use crate::card_shape::CardShape;
-use codes::Card;
+use codes::{AnyCard, Card};
+use fields::LetteredField;
 
-impl TrayCard {
-    pub fn shape(&self) -> CardShape
-        ensures { ShapeOf (tray_code self.now) result }
-    {
-        match self {
-            TrayCard::Prime(card) => shape_of(card),
-            TrayCard::Binary(card) => shape_of(card),
-        }
+pub fn shape_of_any(card: &AnyCard) -> CardShape
+    ensures { ShapeOf (any_code card.now) result }
+{
+    match card {
+        AnyCard::Prime(card) => shape_of(card),
+        AnyCard::Binary(card) => shape_of(card),
     }
 }
 
-pub fn shape_of<F>(card: &Card<F>) -> CardShape
+pub fn shape_of<F: LetteredField>(card: &Card<F>) -> CardShape
     ensures { ShapeOf (card_code card.now) result }
 {
-    let cells = card.cells();
     CardShape {
-        cells,
+        cells: card.cells(),
         letters: card.code().letters,
     }
 }

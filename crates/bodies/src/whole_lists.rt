@@ -1,42 +1,44 @@
 // Lists of numbers that must end where the body ends.
-ghost use Rattle.std.specs.Prelude.{◌≡◌, ◌≤◌, drop};
-ghost use Rattle.algebra.specs.Limits.{largest_cells};
+ghost use Rattle.std.specs.Prelude.{◌≡◌, drop};
 ghost use Rattle.bodies.specs.WholeLists.{WholeListRead, TwoListsRead};
 
-use crate::number_list::{NumberList, read_list};
+use crate::number_list::ListAt;
 use algebra::LARGEST_CELLS;
+use arrayvec::ArrayVec;
 use faults::BodyFault;
 
-// A card's two lists, each in the first places.
-#[derive(Clone, Copy)]
+// A card's two lists.
+#[derive(Drop)]
 pub struct TwoLists {
-    pub locators: [u32; LARGEST_CELLS],
-    pub multipliers: [u32; LARGEST_CELLS],
+    pub locators: ArrayVec<u32, LARGEST_CELLS>,
+    pub multipliers: ArrayVec<u32, LARGEST_CELLS>,
 }
 
-// So many numbers from the place on, and nothing after them.
-pub fn read_whole_list(body: &[u8], start: usize, count: usize) -> Result<NumberList, BodyFault>
-    requires { count ≤ largest_cells }
-    ensures { WholeListRead (drop start body.now) start count result }
-{
-    let list = read_list(body, start, count)?;
-    if list.end < body.len() {
-        return Err(BodyFault::BadBody);
+impl<'a> ListAt<'a> {
+    // The numbers, and nothing after them.
+    pub fn read_whole(self) -> Result<ArrayVec<u32, LARGEST_CELLS>, BodyFault>
+        ensures { WholeListRead (drop self.entry.start self.entry.body.now) self.entry.start self.entry.count result }
+    {
+        let list = self.read()?;
+        if list.end < self.body.len() {
+            return Err(BodyFault::BadBody);
+        }
+        Ok(list.values)
     }
-    Ok(list)
-}
 
-// Two lists of so many numbers, and nothing after them.
-pub fn read_two_lists(body: &[u8], start: usize, count: usize) -> Result<TwoLists, BodyFault>
-    requires { count ≤ largest_cells }
-    ensures { TwoListsRead (drop start body.now) start count result }
-{
-    let first = read_list(body, start, count)?;
-    let second = read_whole_list(body, first.end, count)?;
-    let locators = first.values;
-    let multipliers = second.values;
-    Ok(TwoLists {
-        locators,
-        multipliers,
-    })
+    // Two lists of so many numbers, and nothing after them.
+    pub fn read_two(self) -> Result<TwoLists, BodyFault>
+        ensures { TwoListsRead (drop self.entry.start self.entry.body.now) self.entry.start self.entry.count result }
+    {
+        let first = self.read()?;
+        let second = ListAt {
+            body: self.body,
+            start: first.end,
+            count: self.count,
+        };
+        Ok(TwoLists {
+            locators: first.values,
+            multipliers: second.read_whole()?,
+        })
+    }
 }

@@ -8,15 +8,22 @@ use crate::field_fault::FieldFault;
 use crate::tag_cause::TagCause;
 use codes::CardCause;
 use fields::{FieldCause, NoSuchField};
+use thiserror::Error;
 
 // A bad number begins so many bytes after the body's first.
-#[derive(Clone, Copy)]
+#[derive(Clone, Copy, PartialEq, Eq, Debug, Error)]
 pub enum BodyFault {
+    #[error("bad number")]
     BadNumber(usize),
+    #[error("bad body")]
     BadBody,
+    #[error("bad note")]
     BadNote,
+    #[error(transparent)]
     Field(FieldFault),
+    #[error(transparent)]
     Card(CardCause),
+    #[error(transparent)]
     Tag(TagCause),
 }
 

@@ -6,12 +6,17 @@ use crate::field_fault::FieldFault;
 use crate::file_cause::FileCause;
 use crate::tag_cause::TagCause;
 use codes::CardCause;
+use thiserror::Error;
 
-#[derive(Clone, Copy)]
+#[derive(Clone, Copy, PartialEq, Eq, Debug, Error)]
 pub enum Layer {
+    #[error(transparent)]
     Field(FieldFault),
+    #[error(transparent)]
     Card(CardCause),
+    #[error(transparent)]
     Tag(TagCause),
+    #[error(transparent)]
     File(FileCause),
 }
 

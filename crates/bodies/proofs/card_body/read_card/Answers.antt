@@ -1,19 +1,36 @@
-use Rattle.std.proofs.Common.{inl, rules}
+use Rattle.std.proofs.Common.{sym, inl}
+use Rattle.fields.specs.declared.kind.FieldKind.TheVariants.{Prime, Binary}
+use Rattle.std.proofs.lemmas.Result.{err_from_is_err_and}
 use Rattle.bodies.proofs.OneCard.{card_reads_back}
 use Rattle.bodies.proofs.card_body.read_card.Goals as goal
 
-pub returns-in_err-read : goal.returns-in_err-read
-returns-in_err-read c = record { read = search rules; back = card_reads_back }
+pub returns-in_err-try_from-clause-read : goal.returns-in_err-try_from-clause-read
+returns-in_err-try_from-clause-read c =
+    let none = c.in_err-try_from.ensures in
+    let p = err_from_is_err_and c.from_residual-in_err-try_from.result c.from_residual-in_err-try_from.ensures.1 in
+    let head = c.in_ok-read.read.head in
+    rw (p.1, p.2) (inl (head, c.in_ok-read.ensures.0, λ e. none Prime (sym e), λ e. none Binary (sym e)))
 
-pub returns-then-read-eq-KIND : goal.returns-then-read-eq-KIND
-returns-then-read-eq-KIND c = record { read = c.prime_card.ensures; back = card_reads_back }
+pub returns-in_err-read-clause-back : goal.returns-in_err-read-clause-back
+returns-in_err-read-clause-back c = card_reads_back
 
-pub returns-then-read-eq-KIND-2 : goal.returns-then-read-eq-KIND-2
-returns-then-read-eq-KIND-2 c = record { read = c.binary_card.ensures; back = card_reads_back }
+pub returns-in_err-try_from-clause-back : goal.returns-in_err-try_from-clause-back
+returns-in_err-try_from-clause-back c = card_reads_back
 
-pub returns : goal.returns
-returns c =
-    record {
-      read = inl (c.in_ok-read.read.head, c.in_ok-read.ensures.0, c.if-read-eq-KIND.false, c.if-read-eq-KIND-2.false);
-      back = card_reads_back;
-    }
+pub returns-in_err-field-in-Prime-clause-back : goal.returns-in_err-field-in-Prime-clause-back
+returns-in_err-field-in-Prime-clause-back c = card_reads_back
+
+pub returns-in_err-card_over-in-Prime-clause-back : goal.returns-in_err-card_over-in-Prime-clause-back
+returns-in_err-card_over-in-Prime-clause-back c = card_reads_back
+
+pub returns-in_err-field-in-Binary-clause-back : goal.returns-in_err-field-in-Binary-clause-back
+returns-in_err-field-in-Binary-clause-back c = card_reads_back
+
+pub returns-in_err-card_over-in-Binary-clause-back : goal.returns-in_err-card_over-in-Binary-clause-back
+returns-in_err-card_over-in-Binary-clause-back c = card_reads_back
+
+pub returns-in_ok-card_over-in-Prime-clause-back : goal.returns-in_ok-card_over-in-Prime-clause-back
+returns-in_ok-card_over-in-Prime-clause-back c = card_reads_back
+
+pub returns-in_ok-card_over-in-Binary-clause-back : goal.returns-in_ok-card_over-in-Binary-clause-back
+returns-in_ok-card_over-in-Binary-clause-back c = card_reads_back

@@ -1,0 +1,30 @@
+use Rattle.std.proofs.Common.{◌≡◌, ℕ, ◌+◌, List, length, drop, sym, refl, ap, ◌∙◌, subst, arith}
+use Rattle.std.proofs.lemmas.Result.{err_from_is_err_and}
+use Rattle.bodies.specs.NumberLists.{numbers, Begins}
+use Rattle.bodies.proofs.NumberLists.{begins_none, list_more, list_stops}
+use Rattle.bodies.proofs.number_list.ListAt.read.Goals as goal
+
+pub loop-init : goal.loop-init
+loop-init c =
+    let none = sym c.new-values.ensures in
+    subst (λ (l : List ℕ). Begins l (drop c.args.self.start c.args.self.body.now) × (c.args.self.start ≡ c.args.self.start + length (numbers l)) × (length l ≡ 0)) none
+    (begins_none (drop c.args.self.start c.args.self.body.now), omega arith, refl)
+
+pub returns-in_err-read : goal.returns-in_err-read
+returns-in_err-read c =
+    let inv = c.loop.invariant in
+    let list = c.args.self in
+    let stop = list_stops c.loop.values.items list.body.now list.start c.loop.place list.count _ inv.0 inv.1 (omega arith) c.in_err-read.ensures in
+    let p = err_from_is_err_and c.from_residual.result c.from_residual.ensures.1 in
+    rw (p.1, p.2) stop
+
+pub loop-preserved : goal.loop-preserved
+loop-preserved c =
+    let inv = c.loop.invariant in
+    let list = c.args.self in
+    let more = list_more c.loop.values.items list.body.now list.start c.loop.place c.in_ok-read.read inv.0 inv.1 c.in_ok-read.ensures in
+    let next = sym c.push.ensures.items in (
+      subst (λ (l : List ℕ). Begins l (drop list.start list.body.now)) next more.0,
+      more.1 ∙ ap (λ (l : List ℕ). list.start + length (numbers l)) next,
+      omega (arith, c.push.ensures.len, inv.2),
+    )
