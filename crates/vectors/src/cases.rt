@@ -1,9 +1,10 @@
 // The cases and their answers.
-use crate::numbers::{read_cells, read_numbers, write_cells, write_numbers, write_polynomial};
+use crate::code_case::CodeCase;
+use crate::numbers::{read_cells, read_numbers, up_to_degree};
 use algebra::COEFFICIENTS;
-use anyhow::anyhow;
-use codes::{Card, Cell, CodeRef, sums};
-use fields::{BinaryField, Field, LetteredField, PrimeField};
+use anyhow::bail;
+use codes::{Card, Cell, CellRow, CodeOver, Word};
+use fields::{BinaryField, Field, FieldKind, LetteredField, PrimeField};
 use filling::encode;
 use lines::{LineRefusal, read_line};
 use pairs::realise;
@@ -13,7 +14,7 @@ use tags::{Call, Event, play_script};
 // A case is a word and its argument. All but a line begin with a field: its kind, and what it is made from.
 pub fn answer(heap: Global, line: &str) -> anyhow::Result<String> {
     let Some((word, argument)) = line.split_once(' ') else {
-        return Err(anyhow!("a case has a word and its argument"));
+        bail!("a case has a word and its argument")
     };
     if word == "line" {
         return line_case(heap, argument);
@@ -21,18 +22,17 @@ pub fn answer(heap: Global, line: &str) -> anyhow::Result<String> {
     let (head, rest) = argument.split_once(';').unwrap_or((argument, ""));
     let numbers = read_numbers(heap, head)?;
     let [kind, origin, numbers @ ..] = numbers.as_slice() else {
-        return Err(anyhow!("a field has a kind and an origin"));
+        bail!("a field has a kind and an origin")
     };
-    if *kind == PrimeField::KIND {
-        match PrimeField::new(*origin) {
+    match FieldKind::try_from(*kind) {
+        Ok(FieldKind::Prime) => match PrimeField::new(*origin) {
             Ok(field) => field_case(heap, word, field, numbers, rest),
             Err(cause) => refused(heap, cause.number(), cause),
-        }
-    } else {
-        match BinaryField::new(*origin) {
+        },
+        _ => match BinaryField::new(*origin) {
             Ok(field) => field_case(heap, word, field, numbers, rest),
             Err(cause) => refused(heap, cause.number(), cause),
-        }
+        },
     }
 }
 
@@ -63,7 +63,7 @@ fn field_case<F: LetteredField + Drop>(
         "card" => card_case(heap, field, numbers, rest),
         "encode" => encode_case(heap, field, numbers, rest),
         "read" => read_case(heap, field, numbers, rest),
-        _ => Err(anyhow!("there is no such case")),
+        _ => bail!("there is no such case"),
     }
 }
 
@@ -79,7 +79,7 @@ fn arithmetic<F: LetteredField>(
     numbers: &[u32],
 ) -> anyhow::Result<String> {
     let [a, b] = numbers else {
-        return Err(anyhow!("arithmetic takes two numbers"));
+        bail!("arithmetic takes two numbers")
     };
     let sum = field.add(*a, *b);
     let difference = field.sub(*a, *b);
@@ -118,25 +118,21 @@ fn sums_case<F: LetteredField>(
     rest: &str,
 ) -> anyhow::Result<String> {
     let [rows] = numbers else {
-        return Err(anyhow!("sums begin with the rows"));
+        bail!("sums begin with the rows")
     };
-    let rows = *rows as usize;
-    let mut parts = rest.split(';');
-    let locators = read_numbers(heap, parts.next().unwrap_or(""))?;
-    let multipliers = read_numbers(heap, parts.next().unwrap_or(""))?;
-    let cells = read_cells(heap, parts.next().unwrap_or(""))?;
-    let mut buffer = vec![in heap; 0; rows]?;
-    let code = CodeRef {
-        letters: field.size(),
-        rows,
-        locators: locators.as_slice(),
-        multipliers: multipliers.as_slice(),
+    let case = CodeCase::read(heap, field.size(), *rows, rest)?;
+    let cells = read_cells(heap, case.last)?;
+    let mut buffer = vec![in heap; 0; *rows as usize]?;
+    let over = CodeOver {
+        field,
+        code: case.code(),
     };
-    match sums(field, code, cells.as_slice(), buffer.as_mut_slice()) {
+    match over.sums(cells.as_slice(), buffer.as_mut_slice()) {
         Ok(()) => {
-            let mut out = format!(in heap; "sums")?;
-            write_numbers(&mut out, buffer.as_slice())?;
-            Ok(out)
+            let sums = Word {
+                letters: buffer.as_slice(),
+            };
+            Ok(format!(in heap; "sums{sums}")?)
         }
         Err(refusal) => refused(heap, refusal.number(), refusal),
     }
@@ -149,11 +145,9 @@ fn realise_case<F: LetteredField>(heap: Global, field: &F, rest: &str) -> anyhow
     let mut w = [0; COEFFICIENTS];
     match realise(field, sequence.as_slice(), &mut f, &mut w) {
         Ok(degree) => {
-            let mut out = format!(in heap; "degree {degree}, f")?;
-            write_polynomial(&mut out, &f)?;
-            write!(out, ", w")?;
-            write_polynomial(&mut out, &w)?;
-            Ok(out)
+            let f = up_to_degree(&f);
+            let w = up_to_degree(&w);
+            Ok(format!(in heap; "degree {degree}, f{f}, w{w}")?)
         }
         Err(refusal) => refused(heap, refusal.number(), refusal),
     }
@@ -169,18 +163,10 @@ fn card_case<F: LetteredField + Drop>(
     requires { F.Field.accepted field }
 {
     let [letters, rows] = numbers else {
-        return Err(anyhow!("a card begins with the letters and the rows"));
+        bail!("a card begins with the letters and the rows")
     };
-    let mut parts = rest.split(';');
-    let locators = read_numbers(heap, parts.next().unwrap_or(""))?;
-    let multipliers = read_numbers(heap, parts.next().unwrap_or(""))?;
-    let code = CodeRef {
-        letters: *letters,
-        rows: *rows as usize,
-        locators: locators.as_slice(),
-        multipliers: multipliers.as_slice(),
-    };
-    match Card::check(field, code) {
+    let case = CodeCase::read(heap, *letters, *rows, rest)?;
+    match Card::check(field, case.code()) {
         Ok(_) => Ok(format!(in heap; "card granted")?),
         Err(cause) => refused(heap, cause.number(), cause),
     }
@@ -196,25 +182,18 @@ fn encode_case<F: LetteredField + Drop>(
     requires { F.Field.accepted field }
 {
     let [letters, rows] = numbers else {
-        return Err(anyhow!("encoding begins with the letters and the rows"));
+        bail!("encoding begins with the letters and the rows")
     };
-    let mut parts = rest.split(';');
-    let locators = read_numbers(heap, parts.next().unwrap_or(""))?;
-    let multipliers = read_numbers(heap, parts.next().unwrap_or(""))?;
-    let letters_in = read_numbers(heap, parts.next().unwrap_or(""))?;
-    let mut word = vec![in heap; 0; locators.len()]?;
-    let code = CodeRef {
-        letters: *letters,
-        rows: *rows as usize,
-        locators: locators.as_slice(),
-        multipliers: multipliers.as_slice(),
-    };
-    match Card::check(field, code) {
+    let case = CodeCase::read(heap, *letters, *rows, rest)?;
+    let letters_in = read_numbers(heap, case.last)?;
+    let mut word = vec![in heap; 0; case.code().locators.len()]?;
+    match Card::check(field, case.code()) {
         Ok(card) => match encode(&card, letters_in.as_slice(), word.as_mut_slice()) {
             Ok(()) => {
-                let mut out = format!(in heap; "word")?;
-                write_numbers(&mut out, word.as_slice())?;
-                Ok(out)
+                let word = Word {
+                    letters: word.as_slice(),
+                };
+                Ok(format!(in heap; "word{word}")?)
             }
             Err(refusal) => refused(heap, refusal.number(), refusal),
         },
@@ -232,19 +211,11 @@ fn read_case<F: LetteredField + Drop>(
     requires { F.Field.accepted field }
 {
     let [letters, rows] = numbers else {
-        return Err(anyhow!("reading begins with the letters and the rows"));
+        bail!("reading begins with the letters and the rows")
     };
-    let mut parts = rest.split(';');
-    let locators = read_numbers(heap, parts.next().unwrap_or(""))?;
-    let multipliers = read_numbers(heap, parts.next().unwrap_or(""))?;
-    let calls = note_calls(heap, parts.next().unwrap_or(""), locators.len())?;
-    let code = CodeRef {
-        letters: *letters,
-        rows: *rows as usize,
-        locators: locators.as_slice(),
-        multipliers: multipliers.as_slice(),
-    };
-    match Card::check(field, code) {
+    let case = CodeCase::read(heap, *letters, *rows, rest)?;
+    let calls = note_calls(heap, case.last, case.code().locators.len())?;
+    match Card::check(field, case.code()) {
         Ok(card) => {
             let blank = Event::Wipe {
                 cell: 1,
@@ -283,17 +254,16 @@ fn last_read(heap: Global, journal: &[Event<'_>]) -> anyhow::Result<String> {
         },
     ) = journal.last().copied()
     else {
-        return Err(anyhow!("the last call was no read"));
+        bail!("the last call was no read")
     };
     match answer {
         Ok(counts) => {
             let wrong = counts.wrong;
             let blank = counts.blank;
-            let mut out = format!(in heap; "{wrong} wrong, {blank} blank, word")?;
-            for letter in buffer.iter().take(length) {
-                write!(out, " {letter}")?;
-            }
-            Ok(out)
+            let word = Word {
+                letters: &buffer[0..length.min(buffer.len())],
+            };
+            Ok(format!(in heap; "{wrong} wrong, {blank} blank, word{word}")?)
         }
         Err(refusal) => refused(heap, refusal.number(), refusal),
     }
@@ -302,18 +272,19 @@ fn last_read(heap: Global, journal: &[Event<'_>]) -> anyhow::Result<String> {
 // letters cells;marks: the cells that a line of marks stands for.
 fn line_case(heap: Global, argument: &str) -> anyhow::Result<String> {
     let Some((head, marks)) = argument.split_once(';') else {
-        return Err(anyhow!("a line has letters, cells and marks"));
+        bail!("a line has letters, cells and marks")
     };
     let numbers = read_numbers(heap, head)?;
     let [letters, count] = numbers.as_slice() else {
-        return Err(anyhow!("a line begins with the letters and the cells"));
+        bail!("a line begins with the letters and the cells")
     };
     let mut cells = vec![in heap; Cell::blank(); *count as usize]?;
     match read_line(marks, *letters, cells.as_mut_slice()) {
         Ok(()) => {
-            let mut out = format!(in heap; "line")?;
-            write_cells(&mut out, cells.as_slice())?;
-            Ok(out)
+            let row = CellRow {
+                cells: cells.as_slice(),
+            };
+            Ok(format!(in heap; "line{row}")?)
         }
         Err(LineRefusal::BadMark { place }) => Ok(format!(in heap;
             "refused 28 bad mark at {place}"

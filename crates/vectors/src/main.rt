@@ -2,6 +2,7 @@
 #![tactic(auto)]
 
 mod cases;
+mod code_case;
 mod numbers;
 mod worked;
 

@@ -1,7 +1,7 @@
 // Worked examples, whose results are proved.
 ghost use Rattle.std.specs.Prelude.{◌≡◌, [], ◌∷◌};
 
-use codes::{Cell, CodeRef, sums};
+use codes::{Cell, CodeOver, CodeRef};
 use fields::PrimeField;
 
 // The sums of 1 5 3 4 0 6 modulo 7, with the locators 0 to 5 and multipliers 1.
@@ -26,7 +26,7 @@ pub fn sums_of_six() -> [u32; 4]
         multipliers: &[1, 1, 1, 1, 1, 1],
     };
     let mut buffer = [0; 4];
-    let Ok(()) = sums(&field, code, &cells, &mut buffer) else {
+    let Ok(()) = (CodeOver { field: &field, code }).sums(&cells, &mut buffer) else {
         unreachable()
     };
     buffer
@@ -58,7 +58,7 @@ pub fn sum_of_book_number() -> [u32; 1]
         multipliers: &[10, 9, 8, 7, 6, 5, 4, 3, 2, 1],
     };
     let mut buffer = [0];
-    let Ok(()) = sums(&field, code, &cells, &mut buffer) else {
+    let Ok(()) = (CodeOver { field: &field, code }).sums(&cells, &mut buffer) else {
         unreachable()
     };
     buffer

@@ -1,14 +1,22 @@
 // Later in the week: what was found on the tag is noted, and the tag is read.
-use crate::inspect::CELLS;
-use crate::show::reading_text;
-use anyhow::anyhow;
-use codes::Cell;
+use anyhow::bail;
+use codes::{Cell, Word};
 use house::inked_card;
-use std::alloc::Global;
+use inkedtag::CELLS;
+use reading::{Counts, ReadRefusal};
+use std::alloc::{AllocError, Global};
+use std::fmt;
 use tags::{Call, Event, play_script};
 
-// A freshly opened inked tag is noted with the cells and read, and what the read showed is told.
-pub fn read_found(heap: Global, cells: &[Cell; CELLS]) -> anyhow::Result<String> {
+// What the read answered, and the word after it.
+#[derive(Clone, Copy)]
+pub struct TagRead {
+    answer: Result<Counts, ReadRefusal>,
+    word: [u32; CELLS],
+}
+
+// A freshly opened inked tag is noted with the cells and read.
+pub fn read_found(heap: Global, cells: &[Cell; CELLS]) -> anyhow::Result<TagRead> {
     let card = inked_card();
     let calls = calls_of(heap, cells)?;
     let unused = Event::Wipe {
@@ -17,14 +25,16 @@ pub fn read_found(heap: Global, cells: &[Cell; CELLS]) -> anyhow::Result<String>
     };
     let mut journal = vec![in heap; unused; calls.len()]?;
     play_script(&card, calls.as_slice(), journal.as_mut_slice());
-    match journal.last().copied() {
-        Some(event) => reading_text(heap, event),
-        None => Err(anyhow!("nothing was played")),
-    }
+    let Some(Event::Read { answer, buffer, .. }) = journal.last().copied() else {
+        bail!("the last call was no read")
+    };
+    let mut word = [0; CELLS];
+    word.copy_from_slice(&buffer[0..CELLS]);
+    Ok(TagRead { answer, word })
 }
 
 // A note for each noted cell, and a read.
-fn calls_of(heap: Global, cells: &[Cell; CELLS]) -> anyhow::Result<Vec<Call<'static>>> {
+fn calls_of(heap: Global, cells: &[Cell; CELLS]) -> Result<Vec<Call<'static>>, AllocError> {
     let mut calls = Vec::new(heap);
     for (j, cell) in cells.iter().enumerate() {
         if let Some(letter) = cell.letter {
@@ -36,4 +46,23 @@ fn calls_of(heap: Global, cells: &[Cell; CELLS]) -> anyhow::Result<Vec<Call<'sta
     }
     calls.push(Call::Read { length: CELLS })?;
     Ok(calls)
+}
+
+impl fmt::Display for TagRead {
+    fn fmt<W: fmt::Write>(&self, f: &mut fmt::Formatter<W>) -> fmt::Result {
+        match self.answer {
+            Ok(counts) => {
+                let wrong = counts.wrong;
+                let blank = counts.blank;
+                let word = Word {
+                    letters: &self.word,
+                };
+                write!(f, "it reads, with {wrong} wrong and {blank} blank:\n  letters:{word}")
+            }
+            Err(refusal) => {
+                let number = refusal.number();
+                write!(f, "it does not read: {number} {refusal}")
+            }
+        }
+    }
 }

@@ -2,15 +2,10 @@
 #![tactic(auto)]
 
 mod friday;
-mod inspect;
-mod monday;
-mod show;
 
-use anyhow::anyhow;
 use friday::read_found;
-use inspect::{inspect_cells, inspect_line, noted_cells};
-use monday::ink;
-use show::{card_text, data_refusal_text, line_refusal_text};
+use house::INKED;
+use inkedtag::{CELLS, ROWS, RefusedData, RefusedLine, ink, inspect_cells, inspect_line, noted_cells};
 
 // The next line of the input, without its end.
 fn next_line(rt: &HostRuntime, input: &mut String) -> anyhow::Result<()> {
@@ -20,27 +15,20 @@ fn next_line(rt: &HostRuntime, input: &mut String) -> anyhow::Result<()> {
 }
 
 fn run(rt: &HostRuntime) -> anyhow::Result<()> {
-    let heap = rt.alloc();
-    rt.println(card_text(heap)?)?;
-    let mut input = String::new(heap);
+    let origin = INKED.origin;
+    let letters = INKED.letters;
+    println!(rt; "card: inked, modulo {origin}, {letters} letters, {CELLS} cells, {ROWS} rows")?;
+    let mut input = String::new(rt.alloc());
     next_line(rt, &mut input)?;
     let line = input.as_str().trim_end();
-    match ink(line) {
-        Ok(word) => {
-            let inked = inspect_cells(noted_cells(&word));
-            println!(rt; "Monday, {line} is inked:\n{inked}")?;
-        }
-        Err(refusal) => return Err(anyhow!(data_refusal_text(heap, line, refusal)?)),
-    }
+    let word = ink(line).map_err(|refusal| RefusedData::new(refusal, line))?;
+    let inked = inspect_cells(noted_cells(&word));
+    println!(rt; "Monday, {line} is inked:\n{inked}")?;
     next_line(rt, &mut input)?;
     let line = input.as_str().trim_end();
-    match inspect_line(line) {
-        Ok(found) => {
-            println!(rt; "later, {line} is found:\n{found}")?;
-            rt.println(read_found(heap, &found.cells)?)?;
-        }
-        Err(refusal) => return Err(anyhow!(line_refusal_text(heap, line, refusal)?)),
-    }
+    let found = inspect_line(line).map_err(|refusal| RefusedLine::new(refusal, CELLS, line))?;
+    println!(rt; "later, {line} is found:\n{found}")?;
+    rt.println(read_found(rt.alloc(), &found.cells)?)?;
     Ok(())
 }
 

@@ -1,4 +1,3 @@
-pub mod MarkedLetters
 pub mod LineAndRead
 pub mod MarkTable
 pub mod FiledTags

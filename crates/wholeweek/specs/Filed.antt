@@ -11,7 +11,7 @@ use Rattle.trayfile.specs.Kinds.{kind_number}
 use Rattle.trayfile.specs.declared.kind.Kind.TheVariants.{Card, Cells}
 use Rattle.traywriter.specs.declared.write_refusal.WriteRefusal.{WriteRefusal}
 use Rattle.traywriter.specs.declared.write_refusal.WriteRefusal.TheVariants.{NoLetter, WrongLength, BadNote, TooSmall}
-use Rattle.wholeweek.specs.declared.filed.Filed.{Filed}
+use Rattle.arrayvec.specs.ArrayVec.{ArrayVec}
 
 -- the record of the inked card
 unfoldable pub card_record : List ℕ
@@ -22,8 +22,8 @@ unfoldable pub cells_record : List Cell → List ℕ
 cells_record cells = record_bytes (kind_number Cells) (cells_body cells)
 
 -- The file is the card's record and the cells'. It is refused where a cell holds no letter, or where both are longer than the room.
-abbrev pub FiledTag : List Cell → Result Filed WriteRefusal → Type 0
-FiledTag cells (Ok filed) = take filed.length filed.file ≡ card_record ++ cells_record cells
+abbrev pub FiledTag : List Cell → Result (ArrayVec ℕ) WriteRefusal → Type 0
+FiledTag cells (Ok file) = file.items ≡ card_record ++ cells_record cells
 FiledTag cells (Err NoLetter) = Lettered 37 cells → ⊥
 FiledTag cells (Err TooSmall) = 128 < length card_record + length (cells_record cells)
 FiledTag cells (Err WrongLength) = ⊥

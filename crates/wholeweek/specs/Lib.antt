@@ -1,4 +1,2 @@
-pub mod Inspected
-pub mod Inked
 pub mod Found
 pub mod Filed

@@ -6,15 +6,15 @@ ghost use Rattle.tags.specs.declared.call.Call.TheVariants.{Line as line_call, R
 ghost use Rattle.tags.specs.declared.event.Event.TheVariants.{Line as line_event, Read as read_event};
 ghost use Rattle.wholeweek.specs.Found.{FoundOn};
 
-use crate::found::Found;
-use crate::inspect::CELLS;
+use crate::found::{TagRead, Unread};
 use house::inked_card;
+use inkedtag::CELLS;
 use lines::LineRefusal;
 use reading::{Counts, ReadRefusal};
 use tags::{BUFFER, Call, Event, play_script};
 
 // What an inked tag reads as on which this line was found.
-pub fn read_found(line: &str) -> Found
+pub fn read_found(line: &str) -> Result<TagRead, Unread>
     ensures { FoundOn (chars line.now) result }
 {
     let card = inked_card();
@@ -27,16 +27,12 @@ pub fn read_found(line: &str) -> Found
     play_script(&card, &calls, &mut journal);
     let noted = line_answer(journal[0]);
     let (answer, buffer) = read_answer(journal[1]);
-    if let Err(refusal) = noted {
-        return Found::Refused(refusal);
-    }
-    match answer {
-        Ok(counts) => Found::Word {
-            counts,
-            word: front(&buffer),
-        },
-        Err(refusal) => Found::Unread(refusal),
-    }
+    noted?;
+    let counts = answer?;
+    Ok(TagRead {
+        counts,
+        word: front(&buffer),
+    })
 }
 
 // The answer of an event of a line.

@@ -1,23 +1,15 @@
 // The week of one inked tag: on Monday its letters are encoded and inked, later ink bleeds and goes, and on Friday the tag is read.
 #![tactic(auto)]
 
-mod filed;
 mod found;
 mod friday;
-mod inspect;
 mod marks;
-mod monday;
 mod saturday;
-mod show;
 
-use anyhow::anyhow;
-use filed::ROOM;
 use friday::read_found;
 use house::INKED;
-use inspect::{CELLS, inspect_cells, inspect_line, noted_cells};
-use monday::{DATA, ink};
+use inkedtag::{CELLS, ROWS, RefusedData, RefusedLine, ink, inspect_cells, inspect_line, noted_cells};
 use saturday::file_tag;
-use show::{RefusedData, RefusedLine};
 use traylines::print_lines;
 
 // The next line of the input, without its end.
@@ -28,57 +20,31 @@ fn next_line(rt: &HostRuntime, input: &mut String) -> anyhow::Result<()> {
 }
 
 fn run(rt: &HostRuntime) -> anyhow::Result<()> {
-    let heap = rt.alloc();
     let origin = INKED.origin;
     let letters = INKED.letters;
-    let cells = INKED.cells;
-    let rows = INKED.rows;
-    println!(rt; "card: inked, modulo {origin}, {letters} letters, {cells} cells, {rows} rows")?;
-    let mut input = String::new(heap);
+    println!(rt; "card: inked, modulo {origin}, {letters} letters, {CELLS} cells, {ROWS} rows")?;
+    let mut input = String::new(rt.alloc());
     next_line(rt, &mut input)?;
     let line = input.as_str().trim_end();
-    match ink(line) {
-        Ok(word) => {
-            let inked = inspect_cells(noted_cells(&word));
-            println!(rt; "Monday, {line} is inked:\n{inked}")?;
-        }
-        Err(refusal) => {
-            let refused = RefusedData {
-                refusal,
-                wanted: DATA,
-                marks: line.chars().count(),
-            };
-            return Err(anyhow!(format!(in heap; "{refused}")?));
-        }
+    let word = ink(line).map_err(|refusal| RefusedData::new(refusal, line))?;
+    let inked = inspect_cells(noted_cells(&word));
+    println!(rt; "Monday, {line} is inked:\n{inked}")?;
+    next_line(rt, &mut input)?;
+    let line = input.as_str().trim_end();
+    let found = inspect_line(line).map_err(|refusal| RefusedLine::new(refusal, CELLS, line))?;
+    println!(rt; "later, {line} is found:\n{found}")?;
+    println!(rt; "Friday, before a coin is lifted, the line is noted and the tag is read:")?;
+    match read_found(line) {
+        Ok(read) => println!(rt; "{read}")?,
+        Err(unread) => println!(rt; "{unread}")?,
     }
-    next_line(rt, &mut input)?;
-    let line = input.as_str().trim_end();
-    let cells = match inspect_line(line) {
-        Ok(found) => {
-            println!(rt; "later, {line} is found:\n{found}")?;
-            found.cells
-        }
-        Err(refusal) => {
-            let refused = RefusedLine {
-                refusal,
-                wanted: CELLS,
-                marks: line.chars().count(),
-            };
-            return Err(anyhow!(format!(in heap; "{refused}")?));
-        }
-    };
-    let read = read_found(line);
-    println!(rt;
-        "Friday, before a coin is lifted, the line is noted and the tag is read:\n{read}"
-    )?;
-    match file_tag(&cells) {
-        Ok(filed) => {
-            let length = filed.length;
+    match file_tag(&found.cells) {
+        Ok(file) => {
+            let length = file.len();
             println!(rt;
                 "Saturday, card and cells go into a tray file of {length} bytes, and it reads:"
             )?;
-            let file = filed.file;
-            print_lines(rt, &file[0..length.min(ROOM)])?;
+            print_lines(rt, file.as_slice())?;
         }
         Err(refusal) => {
             let number = refusal.number();

@@ -12,8 +12,5 @@ const MARKS: [char; 37] = [
 pub fn mark_of(letter: u32) -> char
     ensures { letter < marked_letters → cell_of_mark result ≡ Some (noted_cell letter) }
 {
-    if letter as usize >= MARKS.len() {
-        return '?';
-    }
-    MARKS[letter as usize]
+    MARKS.get(letter as usize).copied().unwrap_or('?')
 }

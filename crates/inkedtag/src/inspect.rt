@@ -1,0 +1,67 @@
+// What a line of marks is on the inked card.
+ghost use Rattle.std.specs.Str.{chars};
+ghost use Rattle.std.specs.Prelude.{◌≡◌};
+ghost use Rattle.codes.specs.Cells.{noted};
+ghost use Rattle.inkedtag.specs.Inspected.{Inspected, InspectedCells};
+
+use codes::{Cell, CellRow, Verdict, Word};
+use house::{INKED, inked_card};
+use lines::{LineRefusal, read_line};
+use std::fmt;
+
+pub const CELLS: usize = INKED.cells;
+
+pub const ROWS: usize = INKED.rows;
+
+#[derive(Drop)]
+pub struct Inspection {
+    pub cells: [Cell; CELLS],
+    pub sums: [u32; ROWS],
+    pub verdict: Verdict,
+}
+
+// What a line of marks is.
+pub fn inspect_line(line: &str) -> Result<Inspection, LineRefusal>
+    ensures { Inspected (chars line.now) result }
+{
+    let mut cells = [Cell::blank(); CELLS];
+    read_line(line, INKED.letters, &mut cells)?;
+    Ok(inspect_cells(cells))
+}
+
+// What the cells are.
+pub fn inspect_cells(cells: [Cell; CELLS]) -> Inspection
+    ensures { InspectedCells cells result }
+{
+    let card = inked_card();
+    let mut sums = [0; ROWS];
+    // The lengths are the card's, so the sums are not refused.
+    let verdict = card.over().judge(&cells, &mut sums).unwrap();
+    Inspection {
+        cells,
+        sums,
+        verdict,
+    }
+}
+
+// The cells in which a word is noted.
+pub fn noted_cells(word: &[u32; CELLS]) -> [Cell; CELLS]
+    ensures { result ≡ noted word.now }
+{
+    word.map(|letter| Cell::noted(letter))
+}
+
+impl fmt::Display for Inspection {
+    fn fmt<W: fmt::Write>(&self, f: &mut fmt::Formatter<W>) -> fmt::Result {
+        let cells = CellRow { cells: &self.cells };
+        let sums = Word {
+            letters: &self.sums,
+        };
+        write!(f, "  cells:{cells}\n  sums:{sums}")?;
+        match self.verdict {
+            Verdict::Codeword => write!(f, "\n  a codeword"),
+            Verdict::Unfinished { blanks } => write!(f, "\n  unfinished, blank cells: {blanks}"),
+            Verdict::Damaged => write!(f, "\n  damaged"),
+        }
+    }
+}

@@ -1,0 +1,70 @@
+// Monday: the data letters are encoded, and all cells are inked.
+ghost use Rattle.std.specs.Str.{chars};
+ghost use Rattle.std.specs.Prelude.{◌≡◌};
+ghost use Rattle.algebra.specs.Meaning.{with_inverses};
+ghost use Rattle.fields.specs.Modulo.{modulo};
+ghost use Rattle.fields.specs.Elements.{AllBelow};
+ghost use Rattle.house.specs.HouseRows.{inked, row_code};
+ghost use Rattle.filling.specs.Encodings.{Encodes};
+ghost use Rattle.inkedtag.specs.Inked.{InkedBy, LettersOf};
+ghost use Rattle.inkedtag.specs.declared.monday.DataRefusal.TheVariants.{Line as line_refused};
+
+use crate::inspect::{CELLS, ROWS};
+use codes::Cell;
+use filling::encode;
+use house::{INKED, inked_card};
+use lines::{LineRefusal, read_line};
+
+pub const DATA: usize = CELLS - ROWS;
+
+// Why data are refused.
+#[derive(Clone, Copy, PartialEq, Eq, Debug)]
+pub enum DataRefusal {
+    Line(LineRefusal),
+    // Data have no blanks; the place counts from 0.
+    Blank { place: usize },
+}
+
+impl From<LineRefusal> for DataRefusal {
+    ghost from_gives = { λ refusal result. result ≡ line_refused refusal };
+
+    fn from(refusal: LineRefusal) -> DataRefusal {
+        DataRefusal::Line(refusal)
+    }
+}
+
+// The twenty letters to ink for a line of twelve data letters.
+pub fn ink(line: &str) -> Result<[u32; CELLS], DataRefusal>
+    ensures { InkedBy (chars line.now) result }
+{
+    let mut cells = [Cell::blank(); DATA];
+    read_line(line, INKED.letters, &mut cells)?;
+    let letters = letters_of(&cells)?;
+    Ok(encoded(&letters))
+}
+
+// The letters of cells without a blank.
+fn letters_of(cells: &[Cell; DATA]) -> Result<[u32; DATA], DataRefusal>
+    ensures { LettersOf cells.now result }
+{
+    let mut letters = [0; DATA];
+    for (place, cell) in cells.iter().enumerate() {
+        let Some(letter) = cell.letter else {
+            return Err(DataRefusal::Blank { place });
+        };
+        letters[place] = letter;
+    }
+    Ok(letters)
+}
+
+// The only codeword that begins with the letters.
+fn encoded(letters: &[u32; DATA]) -> [u32; CELLS]
+    requires { AllBelow 37 letters.now }
+    ensures { Encodes (with_inverses (modulo 37)) (row_code inked) letters.now result }
+{
+    let card = inked_card();
+    let mut word = [0; CELLS];
+    // Every letter is one of the card, and the lengths are the card's.
+    encode(&card, letters, &mut word).unwrap();
+    word
+}

@@ -1,0 +1,92 @@
+// How a refused line looks on paper.
+ghost use Rattle.std.specs.Prelude.{◌≡◌, length};
+ghost use Rattle.std.specs.Str.{chars};
+
+use crate::monday::{DATA, DataRefusal};
+use lines::LineRefusal;
+use std::error::Error;
+use std::fmt;
+
+// A line that was refused where some number of marks was wanted.
+#[derive(Clone, Copy, Debug)]
+pub struct RefusedLine {
+    pub refusal: LineRefusal,
+    pub wanted: usize,
+    pub marks: usize,
+}
+
+impl RefusedLine {
+    pub fn new(refusal: LineRefusal, wanted: usize, line: &str) -> RefusedLine
+        ensures refusal { result.refusal ≡ refusal }
+        ensures wanted { result.wanted ≡ wanted }
+        ensures marks { result.marks ≡ length (chars line.now) }
+    {
+        RefusedLine {
+            refusal,
+            wanted,
+            marks: line.chars().count(),
+        }
+    }
+}
+
+impl Error for RefusedLine {}
+
+impl fmt::Display for RefusedLine {
+    fn fmt<W: fmt::Write>(&self, f: &mut fmt::Formatter<W>) -> fmt::Result {
+        let refusal = self.refusal;
+        let number = refusal.number();
+        write!(f, "{number} {refusal}: ")?;
+        match refusal {
+            LineRefusal::WrongLength => {
+                let wanted = self.wanted;
+                let marks = self.marks;
+                write!(f, "{wanted} marks are wanted, and there are {marks}")
+            }
+            LineRefusal::UnmarkedAlphabet => write!(f, "the alphabet has letters without a mark"),
+            LineRefusal::BadMark { place } => {
+                let cell = place.saturating_add(1);
+                write!(f, "mark {cell} is no letter and no '?'")
+            }
+        }
+    }
+}
+
+// A line of data that was refused, of so many marks.
+#[derive(Clone, Copy, Debug)]
+pub struct RefusedData {
+    pub refusal: DataRefusal,
+    pub marks: usize,
+}
+
+impl RefusedData {
+    pub fn new(refusal: DataRefusal, line: &str) -> RefusedData
+        ensures refusal { result.refusal ≡ refusal }
+        ensures marks { result.marks ≡ length (chars line.now) }
+    {
+        RefusedData {
+            refusal,
+            marks: line.chars().count(),
+        }
+    }
+}
+
+impl Error for RefusedData {}
+
+impl fmt::Display for RefusedData {
+    fn fmt<W: fmt::Write>(&self, f: &mut fmt::Formatter<W>) -> fmt::Result {
+        match self.refusal {
+            DataRefusal::Line(refusal) => {
+                let line = RefusedLine {
+                    refusal,
+                    wanted: DATA,
+                    marks: self.marks,
+                };
+                write!(f, "{line}")
+            }
+            DataRefusal::Blank { place } => {
+                let cell = place.saturating_add(1);
+                write!(f, "data letter {cell} is blank")
+            }
+        }
+    }
+}
