@@ -2,3 +2,4 @@ pub mod Words
 pub mod Codewords
 pub mod CellParts
 pub mod CountedLists
+pub mod Zipped

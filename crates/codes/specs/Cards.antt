@@ -1,10 +1,7 @@
 -- Checked code cards. Assumes nothing.
-use Rattle.std.specs.Prelude.{◌≡◌, ℕ, ◌<◌, ◌≤◌, List, length, take, Ok, Err, Result, slice_index}
+use Rattle.std.specs.Prelude.{◌≡◌, ℕ, Ok, Err, Result}
 use Rattle.algebra.specs.Meaning.{Meaning}
-use Rattle.algebra.specs.Laws.{Laws}
 use Rattle.algebra.specs.Alphabet.{Alphabet}
-use Rattle.algebra.specs.Theorems.{Locators, Multipliers}
-use Rattle.algebra.specs.Limits.{largest_cells, largest_rows}
 use Rattle.fields.specs.declared.field.Field.{Ghosts}
 use Rattle.codes.specs.Code.{Code, code_with}
 use Rattle.codes.specs.Checked.{Checked, Shape, LocatorsFit, MultipliersFit}

@@ -1,10 +1,10 @@
 -- A checked card keeps one fact: there is one proof of it at most. Assumes nothing.
 use Rattle.std.proofs.Common.{◌≡◌, ℕ, Some, sym, ap, ◌∙◌}
-use mathlib.Core.HLevel.{Π_prop, →_prop, Σ_prop_path}
+use mathlib.Core.HLevel.{Σ_prop_path}
 use Rattle.std.proofs.Props.{props}
 use Rattle.std.proofs.lemmas.Option.{same_Some}
 use Rattle.algebra.specs.Meaning.{Meaning}
-use Rattle.algebra.specs.Laws.{Laws, InverseOf, InverseLaws}
+use Rattle.algebra.specs.Laws.{Laws, InverseOf}
 use Rattle.codes.specs.Code.{Code}
 use Rattle.codes.specs.Checked.{Checked}
 

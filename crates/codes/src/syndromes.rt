@@ -34,10 +34,10 @@ impl<'a, F: Field> CodeOver<'a, F> {
             return Err(SumsRefusal::WrongLength);
         }
         sums.fill(0);
-        for (j, cell) in cells.iter().enumerate() {
+        for ((cell, locator), multiplier) in cells.iter().zip(code.locators).zip(code.multipliers) {
             if let Some(letter) = cell.letter {
-                let weighted = self.field.mul(letter, code.multipliers[j]);
-                add_powers(self.field, weighted, code.locators[j], sums);
+                let weighted = self.field.mul(letter, *multiplier);
+                add_powers(self.field, weighted, *locator, sums);
             }
         }
         Ok(())
