@@ -16,7 +16,7 @@ use Rattle.algebra.proofs.Lengths.{length_annihilator, length_quotient_linear, s
 use Rattle.algebra.proofs.Carrier.{sum_cong}
 use Rattle.algebra.proofs.Numbers.{filling_only, filling_makes}
 use Rattle.codes.specs.Code.{Code}
-use Rattle.codes.specs.Cards.{Checked}
+use Rattle.codes.specs.Checked.{Checked}
 use Rattle.codes.specs.Cells.{blank_cell, blanks}
 use Rattle.codes.specs.Codeword.{Codeword, row_sum}
 use Rattle.codes.specs.Sums.{sum_to, add_cell, syndromes}

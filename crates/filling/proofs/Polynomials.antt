@@ -1,8 +1,14 @@
 -- Steps of the loops on polynomials: the product with X − a, and the division by it. Assumes nothing.
-use Rattle.std.proofs.Common.{◌≡◌, ℕ, suc, ◌+◌, ◌<◌, ◌≤◌, List, [], ◌∷◌, ◌++◌, length, get_or, take, drop, set, sym, ap, ◌∙◌, subst, ap₂, append_assoc, arith, drop-cons}
-use Rattle.std.proofs.lemmas.List.{take_more_set, drop_more, drop_all}
+use Rattle.std.proofs.Common.{reverse, ◌≡◌, ℕ, suc, ◌+◌, ◌-◌, ◌<◌, ◌≤◌, List, [], ◌∷◌, ◌++◌, length, get_or, take, drop, set, sym, ap, ◌∙◌, subst, ap₂, append_assoc, arith, drop-cons}
+use Rattle.std.proofs.lemmas.List.{take_more_set, drop_more, take-append-le, take_all, drop_all, length-reverse, get_or-reverse, get_or_default}
+use Rattle.std.proofs.lemmas.Slice.Zip.{length-zip, get_or-zip}
+use Rattle.std.specs.List.{refill, zip}
 use Rattle.algebra.specs.Meaning.{Arithmetic}
 use Rattle.algebra.specs.Polynomial.{evaluate, plus_linear, quotient_linear, act}
+
+-- a list that is refilled by one of its own length is that one
+pub refill_same : (xs ws : List ℕ) → length ws ≡ length xs → refill (length xs) xs ws ≡ ws
+refill_same xs ws e = take-append-le (length xs) ws (drop (length ws) xs) (omega arith) ∙ take_all (length xs) ws (omega arith)
 
 module _ (A : Arithmetic) (a : ℕ) (P : List ℕ) where
   -- one more coefficient of the product stands in the array
@@ -18,10 +24,11 @@ module _ (A : Arithmetic) (a : ℕ) (P : List ℕ) where
       ∙ so_far
 
   -- the last coefficient is the one below
-  pub product_all : (whole cs : List ℕ) (below k : ℕ) → length P ≤ k → k < length cs →
-      take k cs ++ plus_linear A below a (drop k P) ≡ whole → take (k + 1) (set cs k below) ≡ whole
+  pub product_all : (whole cs : List ℕ) (below k : ℕ) → length P ≤ k → length cs ≤ k →
+      take k cs ++ plus_linear A below a (drop k P) ≡ whole → cs ++ (below ∷ []) ≡ whole
   product_all whole cs below k h within so_far =
-      take_more_set cs k below within ∙ ap (λ l. take k cs ++ plus_linear A below a l) (sym (drop_all k P h)) ∙ so_far
+      ap (λ l. l ++ (below ∷ [])) (sym (take_all k cs within))
+      ∙ ap (λ l. take k cs ++ plus_linear A below a l) (sym (drop_all k P h)) ∙ so_far
 
 -- quotient, action and value at k of the division of P by X − a from the highest coefficient down to k, with S the sums
 pub record Divided (A : Arithmetic) (a : ℕ) (P : List ℕ) (S : ℕ → ℕ) (k quotient action value : ℕ) : Type 0 where
@@ -68,3 +75,25 @@ module _ (A : Arithmetic) (a : ℕ) (P : List ℕ) (S : ℕ → ℕ) where
   -- at the constant coefficient the quotient is whole
   pub divided_all : (k quotient action value : ℕ) → k ≡ 0 → Divided A a P S k quotient action value → Divided A a P S 0 quotient action value
   divided_all k quotient action value e = subst (λ i. Divided A a P S i quotient action value) e
+
+-- the pairs of two lists of one length, from their ends
+pub pair_from_end : (xs ys : List ℕ) (i : ℕ) (p : ℕ × ℕ) → length ys ≡ length xs → i < length (zip (reverse xs) (reverse ys)) →
+    p ≡ get_or (zip (reverse xs) (reverse ys)) i p →
+    (i < length xs) × (p.0 ≡ get_or xs (length xs - 1 - i) 0) × (p.1 ≡ get_or ys (length xs - 1 - i) 0)
+pair_from_end xs ys i p e h is =
+    let n = length-reverse xs in
+    let m = length-reverse ys in
+    let below : i < length xs = omega (arith, length-zip (reverse xs) (reverse ys)) in
+    let both = is ∙ get_or-zip (reverse xs) (reverse ys) i p (omega arith) (omega arith) in (
+      below,
+      ap (λ (q : ℕ × ℕ). q.0) both ∙ get_or-reverse xs i p.0 below ∙ get_or_default xs (length xs - 1 - i) p.0 0 (omega arith),
+      ap (λ (q : ℕ × ℕ). q.1) both ∙ get_or-reverse ys i p.1 (omega arith)
+          ∙ ap (λ k. get_or ys (k - 1 - i) p.1) e ∙ get_or_default ys (length xs - 1 - i) p.1 0 (omega arith),
+    )
+
+-- how many they are
+pub pairs_in_all : (xs ys : List ℕ) → length ys ≡ length xs → length (zip (reverse xs) (reverse ys)) ≡ length xs
+pairs_in_all xs ys e =
+    let n = length-reverse xs in
+    let m = length-reverse ys in
+    omega (arith, length-zip (reverse xs) (reverse ys))

@@ -1,5 +1,5 @@
 -- Encoding: the codeword that begins with given data letters. Assumes nothing.
-use Rattle.std.specs.Prelude.{◌≡◌, ℕ, ◌+◌, ◌<◌, ◌≤◌, List, ◌++◌, length, take, replicate, Ok, Err, Result, slice_index}
+use Rattle.std.specs.Prelude.{◌≡◌, ℕ, ◌+◌, ◌<◌, ◌≤◌, List, ◌++◌, length, take, replicate, Ok, Err, Result}
 use Rattle.algebra.specs.Meaning.{Meaning}
 use Rattle.fields.specs.Elements.{AllBelow}
 use Rattle.codes.specs.Code.{Code}

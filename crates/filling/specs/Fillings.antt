@@ -8,7 +8,7 @@ use Rattle.algebra.specs.Polynomial.{negate, evaluate, annihilator, quotient_lin
 use Rattle.algebra.specs.Theorems.{erased_letter}
 use Rattle.algebra.specs.Limits.{largest_rows}
 use Rattle.codes.specs.Code.{Code}
-use Rattle.codes.specs.Cards.{Checked}
+use Rattle.codes.specs.Checked.{Checked}
 use Rattle.codes.specs.Cells.{blank_cell, blanks}
 use Rattle.codes.specs.Codeword.{Codeword, row_sum}
 use Rattle.codes.specs.Sums.{Lengths, syndromes}

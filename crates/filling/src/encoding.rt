@@ -1,17 +1,16 @@
 // Encoding: the data letters, and the check letters that make them a codeword.
-ghost use Rattle.std.specs.Prelude.{◌≡◌, ◌-◌, ◌≤◌, ◌++◌, length, replicate, Decides};
+ghost use Rattle.std.specs.Prelude.{◌≡◌, ◌+◌, ◌≤◌, ◌++◌, length, replicate};
 ghost use Rattle.algebra.specs.Limits.{largest_cells};
-ghost use Rattle.codes.specs.Code.{code_of};
-ghost use Rattle.codes.specs.Cards.{Checked, card_code};
+ghost use Rattle.codes.specs.Cards.{card_code};
 ghost use Rattle.codes.specs.Cells.{blank_cell, noted};
-ghost use Rattle.fields.specs.Elements.{AllBelow};
 ghost use Rattle.filling.specs.Encodings.{encoding, EncodeLengths, Encoded};
 
 use crate::encode_refusal::EncodeRefusal;
 use crate::filling::write_letters;
 use algebra::{LARGEST_CELLS, LARGEST_ROWS};
-use codes::{Card, Cell, CodeRef, sums};
-use fields::{Field, LetteredField};
+use arrayvec::ArrayVec;
+use codes::{Card, Cell};
+use fields::{Field, LetteredField, all_below};
 
 // Writes into `word` the codeword that begins with `data`.
 pub fn encode<F: LetteredField>(
@@ -19,65 +18,49 @@ pub fn encode<F: LetteredField>(
     data: &[u32],
     word: &mut [u32],
 ) -> Result<(), EncodeRefusal>
-    requires { Checked (F.Field.meaning card.now.field) (card_code card.now) }
     ensures { Encoded (F.Field.meaning card.now.field) (card_code card.now) «data».now word.old word.new result }
 {
-    let field = card.field();
     let code = card.code();
-    if code.letters < field.size() {
+    if code.letters < card.field().size() {
         return Err(EncodeRefusal::PartAlphabet);
     }
-    let n = code.locators.len();
+    let n = card.cells();
     if data.len() != n - code.rows || word.len() != n {
         return Err(EncodeRefusal::WrongLength);
     }
     if !all_below(data, code.letters) {
         return Err(EncodeRefusal::NoLetter);
     }
-    write_codeword(field, code, data, word);
+    write_codeword(card, data, word);
     Ok(())
 }
 
 // The same, where no refusal is due.
-fn write_codeword<F: Field>(field: &F, code: CodeRef<'_>, data: &[u32], word: &mut [u32])
-    requires checked { Checked (F.Field.meaning field.now) (code_of code) }
-    requires lengths { EncodeLengths (code_of code) «data».now word.old }
-    ensures { word.new ≡ encoding (F.Field.meaning field.now) (code_of code.entry) «data».now }
+fn write_codeword<F: LetteredField>(card: &Card<F>, data: &[u32], word: &mut [u32])
+    requires { EncodeLengths (card_code card.now) «data».now word.old }
+    ensures { word.new ≡ encoding (F.Field.meaning card.now.field) (card_code card.now) «data».now }
 {
-    let array = noted_cells(data);
-    let cells = &array[0..code.locators.len()];
+    let over = card.over();
+    let cells = data_cells(data, over.code.rows);
+    let cells = cells.as_slice();
     let mut row_sums = [0; LARGEST_ROWS];
-    let part = &mut row_sums[0..code.rows];
+    let row_sums = &mut row_sums[..over.code.rows];
     // The lengths are the card's, so the sums are not refused.
-    sums(field, code, cells, part).unwrap();
-    write_letters(field, code, cells, part, word);
+    over.sums(cells, row_sums).unwrap();
+    write_letters(over, cells, row_sums, word);
 }
 
-// The letters in the first cells of an array, and blanks after them.
-fn noted_cells(letters: &[u32]) -> [Cell; LARGEST_CELLS]
-    requires { length letters.now ≤ largest_cells }
-    ensures { result ≡ noted letters.now ++ replicate (largest_cells - length letters.now) blank_cell }
+// The letters in the first cells, and a blank for each row after them.
+fn data_cells(letters: &[u32], rows: usize) -> ArrayVec<Cell, LARGEST_CELLS>
+    requires { length letters.now + rows ≤ largest_cells }
+    ensures { result.items ≡ noted letters.now ++ replicate rows blank_cell }
 {
-    let mut cells = blank_cells();
-    for (j, letter) in letters.iter().enumerate() {
-        cells[j] = Cell::noted(*letter);
+    let mut cells = ArrayVec::new();
+    for letter in letters {
+        cells.push(Cell::noted(*letter));
+    }
+    for _ in 0..rows {
+        cells.push(Cell::blank());
     }
     cells
-}
-
-fn blank_cells() -> [Cell; LARGEST_CELLS]
-    ensures { result ≡ replicate largest_cells blank_cell }
-{
-    [Cell::blank(); LARGEST_CELLS]
-}
-
-fn all_below(numbers: &[u32], size: u32) -> bool
-    ensures { Decides result (AllBelow size numbers.now) }
-{
-    for number in numbers {
-        if *number >= size {
-            return false;
-        }
-    }
-    true
 }

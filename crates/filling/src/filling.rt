@@ -1,30 +1,26 @@
 // Filling: every cell gets a letter, the blank ones by the sums over the noted ones.
-ghost use Rattle.std.specs.Prelude.{◌≡◌, ◌≤◌, length};
-ghost use Rattle.std.specs.Option.{unwrap_or};
-ghost use Rattle.algebra.specs.Limits.{largest_rows};
+ghost use Rattle.std.specs.Prelude.{◌≡◌};
 ghost use Rattle.codes.specs.Code.{code_of};
-ghost use Rattle.filling.specs.Polynomials.{coefficients_of};
-ghost use Rattle.filling.specs.Fillings.{number_at, letter_from, filled, FillLengths, FewBlanks, Filling, FillingLaws};
+ghost use Rattle.filling.specs.Fillings.{filled, FillLengths, FewBlanks, Filling, FillingLaws};
 
-use crate::erasures::{blank_annihilator, letter_at};
+use crate::erasures::{Erasures, blank_annihilator};
 use crate::fill_refusal::FillRefusal;
-use crate::polynomial::Polynomial;
 use algebra::LARGEST_ROWS;
-use codes::{Cell, CodeRef, count_blanks};
+use codes::{Cell, CodeOver, count_blanks};
 use fields::Field;
 
 // Writes into `word` the noted letters and, at the blanks, the letters that make the sums of a codeword 0, where `sums`
 // has the sum of each row over the noted cells.
 pub fn fill<F: Field>(
-    field: &F,
-    code: CodeRef<'_>,
+    over: CodeOver<'_, F>,
     cells: &[Cell],
     sums: &[u32],
     word: &mut [u32],
 ) -> Result<(), FillRefusal>
-    ensures outcome { Filling (F.Field.meaning field.now) (code_of code.entry) cells.now sums.now word.old word.new result }
-    ensures laws { FillingLaws (F.Field.meaning field.now) (code_of code.entry) }
+    ensures outcome { Filling (F.Field.meaning over.entry.field.now) (code_of over.entry.code) cells.now sums.now word.old word.new result }
+    ensures laws { FillingLaws (F.Field.meaning over.entry.field.now) (code_of over.entry.code) }
 {
+    let code = over.code;
     let n = code.locators.len();
     if code.multipliers.len() != n
         || cells.len() != n
@@ -38,50 +34,28 @@ pub fn fill<F: Field>(
     if blanks > code.rows || blanks > LARGEST_ROWS {
         return Err(FillRefusal::TooBlank);
     }
-    write_letters(field, code, cells, sums, word);
+    write_letters(over, cells, sums, word);
     Ok(())
 }
 
 // The same, where no refusal is due.
 pub fn write_letters<F: Field>(
-    field: &F,
-    code: CodeRef<'_>,
+    over: CodeOver<'_, F>,
     cells: &[Cell],
     sums: &[u32],
     word: &mut [u32],
 )
-    requires lengths { FillLengths (code_of code) cells.now sums.now word.old }
-    requires few { FewBlanks (code_of code) cells.now }
-    ensures { word.new ≡ filled (F.Field.meaning field.now) (code_of code.entry) cells.now sums.now }
+    requires lengths { FillLengths (code_of over.code) cells.now sums.now word.old }
+    requires few { FewBlanks (code_of over.code) cells.now }
+    ensures { word.new ≡ filled (F.Field.meaning over.entry.field.now) (code_of over.entry.code) cells.now sums.now }
 {
-    let product = blank_annihilator(field, code.locators, cells);
-    for (j, cell) in cells.iter().enumerate() {
-        word[j] = letter_of(
-            field,
-            *cell,
-            &product,
-            sums,
-            code.locators[j],
-            code.multipliers[j],
-        );
-    }
-}
-
-// The letter of a cell: the noted one, or at a blank the one that the sums give.
-fn letter_of<F: Field>(
-    field: &F,
-    cell: Cell,
-    product: &Polynomial,
-    sums: &[u32],
-    locator: u32,
-    multiplier: u32,
-) -> u32
-    requires short { product.now.degree ≤ largest_rows }
-    requires enough { product.now.degree ≤ length sums.now }
-    ensures { result ≡ unwrap_or cell.letter (letter_from (F.Field.meaning field.now) (coefficients_of product.now) (number_at sums.now) locator multiplier) }
-{
-    match cell.letter {
-        Some(letter) => letter,
-        None => letter_at(field, product, sums, locator, multiplier),
+    let code = over.code;
+    let erasures = Erasures {
+        field: over.field,
+        annihilator: &blank_annihilator(over.field, code.locators, cells),
+        sums,
+    };
+    for (j, letter) in word.iter_mut().enumerate() {
+        *letter = erasures.letter_of(cells[j], code.locators[j], code.multipliers[j]);
     }
 }

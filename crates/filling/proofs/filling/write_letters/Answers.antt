@@ -9,8 +9,8 @@ use Rattle.filling.proofs.filling.write_letters.Goals as goal
 pub loop-j-preserved : goal.loop-j-preserved
 unfolding annihilator_below filled_letter
 loop-j-preserved g c k h =
-    let m = g.F.Field.meaning c.args.field.now in
-    let code = code_of c.args.code in
+    let m = g.F.Field.meaning c.args.over.field.now in
+    let code = code_of c.args.over.code in
     let cells = c.args.cells.now in
     let sums = c.args.sums.now in
     let word = c.loop-j.word in
@@ -18,7 +18,7 @@ loop-j-preserved g c k h =
     let from : List ℕ → ℕ = λ p.
     unwrap_or (get_or cells j blank_cell).letter (letter_from m p (number_at sums) (get_or code.locators j 0) (get_or code.multipliers j 0)) in
     let letter : c.letter_of.result ≡ filled_letter m code cells sums j =
-    c.letter_of.ensures ∙ ap from c.blank_annihilator-product.ensures.product in
+    c.letter_of.ensures ∙ ap from c.blank_annihilator.ensures.product in
     ap (λ x. get_or (set word j x) k 0) letter
     ∙ fill_by_more (filled_letter m code cells sums) word j 0 (omega arith) c.loop-j.invariant k h
 
