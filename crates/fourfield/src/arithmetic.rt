@@ -33,7 +33,7 @@ impl Field for FourField {
     }
 
     fn invert(&self, a: u32) -> Option<u32> {
-        INVERSES.get(a as usize).copied().unwrap_or(None)
+        INVERSES.get(a as usize).copied().flatten()
     }
 }
 

@@ -14,8 +14,9 @@ pub const INVERSES: [Option<u32>; 4] = [None, Some(1), Some(3), Some(2)];
 pub fn look_up(table: &[[u32; 4]; 4], a: u32, b: u32) -> u32
     ensures { result ≡ entry table.now a b }
 {
-    match table.get(a as usize) {
-        Some(row) => row.get(b as usize).copied().unwrap_or(0),
-        None => 0,
-    }
+    table
+        .get(a as usize)
+        .and_then(|row| row.get(b as usize))
+        .copied()
+        .unwrap_or(0)
 }
