@@ -6,7 +6,7 @@ use Rattle.fields.specs.PrimeModulus.{listed_laws, whole_alphabet}
 use Rattle.fields.specs.BinaryModulus.{binary_laws}
 use Rattle.fields.proofs.BinaryAlphabet.{two_letters, all_letters}
 use Rattle.codes.proofs.CountedLists.{counting_fit, counting_nonzero, ones_fit}
-use Rattle.fields.specs.Kinds.{prime_kind}
+use Rattle.fields.specs.declared.kind.FieldKind.TheVariants.{Prime, Binary}
 use Rattle.house.specs.HouseRows.{engraved, inked, punched, house_row, IsHouseNumber}
 use Rattle.house.specs.HouseCards.{PrimeRow, BinaryRow}
 use Rattle.house.proofs.HouseModuli.{modulus_285, modulus_67}
@@ -58,10 +58,10 @@ punched_row = record {
 
 pub ruleset all_rows = (engraved_row, inked_row, punched_row)
 
--- every house row is of one of the two kinds
-pub house_row_kinds : (n : ℕ) → IsHouseNumber n → ((house_row n).kind ≡ prime_kind → PrimeRow (house_row n)) × (((house_row n).kind ≡ prime_kind → ⊥) → BinaryRow (house_row n))
+-- every house row is of its kind
+pub house_row_kinds : (n : ℕ) → IsHouseNumber n → ((house_row n).kind ≡ Prime → PrimeRow (house_row n)) × ((house_row n).kind ≡ Binary → BinaryRow (house_row n))
 house_row_kinds zero is = absurd (omega (arith, is.0))
-house_row_kinds (suc zero) is = (λ e. absurd (omega arith), λ other. engraved_row)
-house_row_kinds (suc (suc zero)) is = (λ e. inked_row, λ other. absurd (other refl))
-house_row_kinds (suc (suc (suc zero))) is = (λ e. absurd (omega arith), λ other. punched_row)
+house_row_kinds (suc zero) is = (λ e. absurd (cc e), λ e. engraved_row)
+house_row_kinds (suc (suc zero)) is = (λ e. inked_row, λ e. absurd (cc e))
+house_row_kinds (suc (suc (suc zero))) is = (λ e. absurd (cc e), λ e. punched_row)
 house_row_kinds (suc (suc (suc (suc n)))) is = absurd (omega (arith, is.1))

@@ -7,31 +7,34 @@ use Rattle.fields.specs.BinaryArithmetic.{modulo_polynomial}
 use Rattle.fields.specs.Binary.{BinaryModulus, binary_meaning, binary_accepted}
 use Rattle.fields.specs.declared.prime_field.PrimeField.{PrimeField}
 use Rattle.fields.specs.declared.binary_field.BinaryField.{BinaryField}
-use Rattle.codes.specs.Cards.{Checked, card_code}
+use Rattle.fields.specs.declared.field.Field.{Ghosts}
+use Rattle.codes.specs.Checked.{Checked}
+use Rattle.codes.specs.Cards.{card_code}
 use Rattle.fields.specs.Kinds.{prime_kind, binary_kind}
+use Rattle.fields.specs.FieldKinds.{field_kind_number}
 use Rattle.house.specs.HouseRows.{row_code, IsHouseNumber, house_row, house_number}
 use Rattle.codes.specs.declared.card.Card.{Card}
 use Rattle.house.specs.declared.house_rows.HouseRow.{HouseRow}
 use Rattle.house.specs.declared.house_rows.HouseRefusal.{HouseRefusal}
-use Rattle.house.specs.declared.house_cards.HouseCard.{HouseCard}
-use Rattle.house.specs.declared.house_cards.HouseCard.TheVariants.{Prime, Binary}
+use Rattle.codes.specs.declared.any_card.AnyCard.{AnyCard}
+use Rattle.codes.specs.declared.any_card.AnyCard.TheVariants.{Prime, Binary}
 
 -- The row is of the prime kind, its origin makes a field, and over that field its values keep every rule of a card.
 pub record PrimeRow (row : HouseRow) : Type 0 where
-  pub kind : row.kind ≡ prime_kind
+  pub kind : field_kind_number row.kind ≡ prime_kind
   pub origin : Listed row.origin
   pub checked : Checked (with_inverses (modulo row.origin)) (row_code row)
 
 -- the same of the binary kind
 pub record BinaryRow (row : HouseRow) : Type 0 where
-  pub kind : row.kind ≡ binary_kind
+  pub kind : field_kind_number row.kind ≡ binary_kind
   pub degree : ℕ
   pub origin : BinaryModulus row.origin degree
   pub checked : Checked (with_inverses (modulo_polynomial row.origin degree)) (row_code row)
 
 -- The card has the row's values and is checked. Its field works modulo the row's origin and is accepted.
-pub record PrimeCardOf (row : HouseRow) (card : Card PrimeField) : Type 0 where
-  pub kind : row.kind ≡ prime_kind
+pub record PrimeCardOf {g : Ghosts PrimeField} (row : HouseRow) (card : Card PrimeField g) : Type 0 where
+  pub kind : field_kind_number row.kind ≡ prime_kind
   pub meaning : prime_meaning card.field ≡ with_inverses (modulo row.origin)
   pub accepted : prime_accepted card.field
   pub made_from : card.field.prime ≡ row.origin
@@ -39,8 +42,8 @@ pub record PrimeCardOf (row : HouseRow) (card : Card PrimeField) : Type 0 where
   pub checked : Checked (prime_meaning card.field) (card_code card)
 
 -- the same of the binary kind, where the origin is a polynomial and the field knows its degree
-pub record BinaryCardOf (row : HouseRow) (card : Card BinaryField) : Type 0 where
-  pub kind : row.kind ≡ binary_kind
+pub record BinaryCardOf {g : Ghosts BinaryField} (row : HouseRow) (card : Card BinaryField g) : Type 0 where
+  pub kind : field_kind_number row.kind ≡ binary_kind
   pub origin : BinaryModulus row.origin card.field.degree
   pub meaning : binary_meaning card.field ≡ with_inverses (modulo_polynomial row.origin card.field.degree)
   pub accepted : binary_accepted card.field
@@ -48,11 +51,11 @@ pub record BinaryCardOf (row : HouseRow) (card : Card BinaryField) : Type 0 wher
   pub values : card_code card ≡ row_code row
   pub checked : Checked (binary_meaning card.field) (card_code card)
 
-abbrev pub HouseCardOf : HouseRow → HouseCard → Type 0
+abbrev pub HouseCardOf : HouseRow → AnyCard → Type 0
 HouseCardOf row (Prime card) = PrimeCardOf row card
 HouseCardOf row (Binary card) = BinaryCardOf row card
 
 -- The card of the row with this number; any other number is refused with 18.
-abbrev pub HouseCardMade : ℕ → Result HouseCard HouseRefusal → Type 0
+abbrev pub HouseCardMade : ℕ → Result AnyCard HouseRefusal → Type 0
 HouseCardMade number (Ok card) = IsHouseNumber number × HouseCardOf (house_row number) card
 HouseCardMade number (Err refusal) = (IsHouseNumber number → ⊥) × (house_number refusal ≡ 18)

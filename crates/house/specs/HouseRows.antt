@@ -2,7 +2,7 @@
 use Rattle.std.specs.Prelude.{◌≡◌, ℕ, ◌-◌, ◌≤◌, List, [], ◌∷◌, length, replicate, Ok, Err, Result, slice_index_or}
 use Rattle.std.specs.List.{range_with_len}
 use Rattle.codes.specs.Code.{Code}
-use Rattle.fields.specs.Kinds.{prime_kind, binary_kind}
+use Rattle.fields.specs.declared.kind.FieldKind.TheVariants.{Prime, Binary}
 use Rattle.house.specs.declared.house_rows.HouseRow.{HouseRow}
 use Rattle.house.specs.declared.house_rows.HouseRefusal.{HouseRefusal}
 use Rattle.house.specs.declared.house_rows.HouseRefusal.TheVariants.{NoHouseCard}
@@ -12,13 +12,13 @@ use Rattle.house.specs.declared.house_rows.MultiplierRule.{MultiplierRule}
 use Rattle.house.specs.declared.house_rows.MultiplierRule.TheVariants.{Ones, AsLocators}
 
 abbrev pub engraved : HouseRow
-engraved = record { kind = binary_kind; origin = 285; letters = 256; cells = 64; rows = 16; locators = CountingFrom 0; multipliers = Ones }
+engraved = record { kind = Binary; origin = 285; letters = 256; cells = 64; rows = 16; locators = CountingFrom 0; multipliers = Ones }
 
 abbrev pub inked : HouseRow
-inked = record { kind = prime_kind; origin = 37; letters = 37; cells = 20; rows = 8; locators = CountingFrom 0; multipliers = Ones }
+inked = record { kind = Prime; origin = 37; letters = 37; cells = 20; rows = 8; locators = CountingFrom 0; multipliers = Ones }
 
 abbrev pub punched : HouseRow
-punched = record { kind = binary_kind; origin = 67; letters = 2; cells = 63; rows = 8; locators = CountingFrom 1; multipliers = AsLocators }
+punched = record { kind = Binary; origin = 67; letters = 2; cells = 63; rows = 8; locators = CountingFrom 1; multipliers = AsLocators }
 
 -- the rows by number, from 1 on
 abbrev pub house_rows : List HouseRow

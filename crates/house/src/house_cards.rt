@@ -1,8 +1,9 @@
 // The checked cards of the house rows.
-ghost use Rattle.std.specs.Prelude.{◌≡◌, ◌+◌, ◌^◌, ◌≤◌, take};
+ghost use Rattle.std.specs.Prelude.{◌≡◌, ◌+◌, ◌^◌, ◌<◌, ◌≤◌, length};
 ghost use Rattle.std.specs.List.{range_with_len};
 ghost use Rattle.algebra.specs.Limits.{largest_cells};
-ghost use Rattle.codes.specs.Cards.{Checked, card_code};
+ghost use Rattle.codes.specs.Cards.{card_code};
+ghost use Rattle.codes.specs.Checked.{Checked};
 ghost use Rattle.house.specs.HouseRows.{row_code, rule_multipliers, engraved, inked, punched};
 ghost use Rattle.house.specs.HouseCards.{PrimeRow, BinaryRow, PrimeCardOf, BinaryCardOf, HouseCardMade};
 
@@ -10,26 +11,19 @@ use crate::house_rows::{
     ENGRAVED, HouseRefusal, HouseRow, INKED, MultiplierRule, PUNCHED, house_row,
 };
 use algebra::LARGEST_CELLS;
-use codes::{Card, CodeRef};
-use fields::{BinaryField, LetteredField, PrimeField};
-
-// A house card, over a field of its row's kind.
-#[derive(Drop)]
-pub enum HouseCard {
-    Prime(Card<PrimeField>),
-    Binary(Card<BinaryField>),
-}
+use arrayvec::ArrayVec;
+use codes::{AnyCard, Card, CodeRef};
+use fields::{BinaryField, FieldKind, LetteredField, PrimeField};
 
 // The checked card of the house card with this number.
-pub fn house_card(number: u32) -> Result<HouseCard, HouseRefusal>
+pub fn house_card(number: u32) -> Result<AnyCard, HouseRefusal>
     ensures { HouseCardMade number result }
 {
     let row = house_row(number)?;
-    if row.kind == PrimeField::KIND {
-        Ok(HouseCard::Prime(prime_card(row)))
-    } else {
-        Ok(HouseCard::Binary(binary_card(row)))
-    }
+    Ok(match row.kind {
+        FieldKind::Prime => AnyCard::Prime(prime_card(row)),
+        FieldKind::Binary => AnyCard::Binary(binary_card(row)),
+    })
 }
 
 pub fn engraved_card() -> Card<BinaryField>
@@ -54,20 +48,14 @@ fn prime_card(row: HouseRow) -> Card<PrimeField>
     requires { PrimeRow row }
     ensures { PrimeCardOf row result }
 {
-    let Ok(field) = PrimeField::new(row.origin) else {
-        unreachable()
-    };
-    row_card(field, row)
+    row_card(PrimeField::new(row.origin).unwrap(), row)
 }
 
 fn binary_card(row: HouseRow) -> Card<BinaryField>
     requires { BinaryRow row }
     ensures { BinaryCardOf row result }
 {
-    let Ok(field) = BinaryField::new(row.origin) else {
-        unreachable()
-    };
-    row_card(field, row)
+    row_card(BinaryField::new(row.origin).unwrap(), row)
 }
 
 // The card with the row's values. Over this field they break no rule, so the check grants it.
@@ -77,45 +65,37 @@ fn row_card<F: LetteredField + Drop>(field: F, row: HouseRow) -> Card<F>
     ensures field { result.field ≡ field }
     ensures values { card_code result ≡ row_code row }
 {
-    let cells = row.cells;
-    let locators = counting_from(row.locators.first(), cells);
-    let multipliers = multipliers_by(row.multipliers, cells, locators);
+    let locators = counting_from(row.locators.first(), row.cells);
+    let multipliers = multipliers_by(row.multipliers, locators.as_slice());
     let code = CodeRef {
         letters: row.letters,
         rows: row.rows,
-        locators: &locators[0..cells],
-        multipliers: &multipliers[0..cells],
+        locators: locators.as_slice(),
+        multipliers: multipliers.as_slice(),
     };
-    let Ok(card) = Card::check(field, code) else {
-        unreachable()
-    };
-    card
+    Card::check(field, code).unwrap()
 }
 
-// `first` and the numbers that follow it, in the first places of an array.
-fn counting_from(first: u32, cells: usize) -> [u32; LARGEST_CELLS]
+// `first` and the numbers that follow it.
+fn counting_from(first: u32, cells: usize) -> ArrayVec<u32, LARGEST_CELLS>
     requires few { cells ≤ largest_cells }
-    requires small { first + cells ≤ 2 ^ 32 }
-    ensures { take cells result ≡ range_with_len first cells }
+    requires small { first + cells < 2 ^ 32 }
+    ensures { result.items ≡ range_with_len first cells }
 {
-    let mut array = [0; LARGEST_CELLS];
-    for j in 0..cells {
-        array[j] = first + j as u32;
+    let mut numbers = ArrayVec::new();
+    for number in first..first + cells as u32 {
+        numbers.push(number);
     }
-    array
+    numbers
 }
 
-// The multipliers of `cells` cells with these locators, in the first places of an array.
-fn multipliers_by(
-    rule: MultiplierRule,
-    cells: usize,
-    locators: [u32; LARGEST_CELLS],
-) -> [u32; LARGEST_CELLS]
-    requires { cells ≤ largest_cells }
-    ensures { take cells result ≡ rule_multipliers rule cells (take cells locators) }
+// The multipliers of the cells with these locators.
+fn multipliers_by(rule: MultiplierRule, locators: &[u32]) -> ArrayVec<u32, LARGEST_CELLS>
+    requires { length locators.now ≤ largest_cells }
+    ensures { result.items ≡ rule_multipliers rule (length locators.now) locators.now }
 {
     match rule {
-        MultiplierRule::Ones => [1; LARGEST_CELLS],
-        MultiplierRule::AsLocators => locators,
+        MultiplierRule::Ones => ArrayVec::try_from(&[1; LARGEST_CELLS][..locators.len()]).unwrap(),
+        MultiplierRule::AsLocators => ArrayVec::try_from(locators).unwrap(),
     }
 }

@@ -2,7 +2,7 @@
 ghost use Rattle.std.specs.Prelude.{◌≡◌};
 ghost use Rattle.house.specs.HouseRows.{HouseRowFound, house_number, rule_first};
 
-use fields::{BinaryField, LetteredField, PrimeField};
+use fields::FieldKind;
 use thiserror::Error;
 
 // How a row's locators are made.
@@ -34,8 +34,8 @@ pub enum MultiplierRule {
 
 #[derive(Clone, Copy)]
 pub struct HouseRow {
-    // The number of the field's kind, and the number that the field is made from.
-    pub kind: u32,
+    // The field's kind, and the number that the field is made from.
+    pub kind: FieldKind,
     pub origin: u32,
     pub letters: u32,
     pub cells: usize,
@@ -45,7 +45,7 @@ pub struct HouseRow {
 }
 
 pub const ENGRAVED: HouseRow = HouseRow {
-    kind: BinaryField::KIND,
+    kind: FieldKind::Binary,
     origin: 285,
     letters: 256,
     cells: 64,
@@ -55,7 +55,7 @@ pub const ENGRAVED: HouseRow = HouseRow {
 };
 
 pub const INKED: HouseRow = HouseRow {
-    kind: PrimeField::KIND,
+    kind: FieldKind::Prime,
     origin: 37,
     letters: 37,
     cells: 20,
@@ -65,7 +65,7 @@ pub const INKED: HouseRow = HouseRow {
 };
 
 pub const PUNCHED: HouseRow = HouseRow {
-    kind: BinaryField::KIND,
+    kind: FieldKind::Binary,
     origin: 67,
     letters: 2,
     cells: 63,
@@ -95,8 +95,9 @@ impl HouseRefusal {
 pub fn house_row(number: u32) -> Result<HouseRow, HouseRefusal>
     ensures { HouseRowFound number result }
 {
-    if number == 0 || number as usize > HOUSE_ROWS.len() {
-        return Err(HouseRefusal::NoHouseCard);
-    }
-    Ok(HOUSE_ROWS[number as usize - 1])
+    number
+        .checked_sub(1)
+        .and_then(|place| HOUSE_ROWS.get(place as usize))
+        .copied()
+        .ok_or(HouseRefusal::NoHouseCard)
 }

@@ -4,7 +4,7 @@ use Rattle.fields.specs.BinaryArithmetic.{modulo_polynomial}
 use Rattle.fields.specs.Binary.{BinaryFieldMade, binary_meaning}
 use Rattle.fields.specs.declared.binary_field.BinaryField.{BinaryField}
 use Rattle.fields.specs.PolynomialDegrees.{degree_unique}
-use Rattle.codes.specs.Cards.{Checked}
+use Rattle.codes.specs.Checked.{Checked}
 use Rattle.house.specs.HouseRows.{row_code}
 use Rattle.house.specs.HouseCards.{BinaryRow}
 use Rattle.house.specs.declared.house_rows.HouseRow.{HouseRow}
@@ -17,7 +17,7 @@ over_field row field fits made =
     subst (λ (m : Meaning). Checked m (row_code row)) (ap (λ (k : ℕ). with_inverses (modulo_polynomial row.origin k)) same ∙ sym made.1) fits.checked
 
 pub row_card-requires : goal.row_card-requires
-row_card-requires c = let checked = over_field c.args.row c.in-Ok.field c.requires c.in-Ok.ensures in search rules
+row_card-requires c = let checked = over_field c.args.row c.unwrap.result c.requires (subst (BinaryFieldMade c.args.row.origin) c.unwrap.ensures c.new.ensures) in search rules
 
 pub returns : goal.returns
-returns c = let checked = over_field c.args.row c.in-Ok.field c.requires c.in-Ok.ensures in search rules
+returns c = let checked = over_field c.args.row c.unwrap.result c.requires (subst (BinaryFieldMade c.args.row.origin) c.unwrap.ensures c.new.ensures) in search rules

@@ -1,23 +1,24 @@
-use Rattle.std.proofs.Common.{◌<◌, ◌≢◌, length, take, sym, ◌∙◌, arith, length-set, get_or-set_other, get_or-set_same, below_more}
+use Rattle.std.proofs.Common.{◌≡◌, ℕ, zero, suc, ◌+◌, ◌-◌, ◌≤◌, [], ◌∷◌, ◌++◌, length, ap, sym, ◌∙◌, add-zero, arith}
 use Rattle.std.specs.List.{range_with_len}
-use Rattle.std.proofs.lemmas.List.{ext_get_or, length-take-le, get_or-take}
-use Rattle.std.proofs.lemmas.List.FromFn.{length-range_with_len, get_or-range_with_len}
+use Rattle.std.proofs.lemmas.List.FromFn.{length-range_with_len}
 use Rattle.house.proofs.house_cards.counting_from.Goals as goal
 
-pub loop-j-preserved : goal.loop-j-preserved
-loop-j-preserved c =
-    let j = c.loop-j.j in
-    let inv = c.loop-j.invariant in
-    let within : j < length c.loop-j.array = omega (arith, c.loop-j-test.true, c.requires.few) in (
-      length-set _ _ _ ∙ inv.0,
-      below_more _ _ (λ k h. let ne : k ≢ j = omega arith in rw get_or-set_other (inv.1 k h)) (rw get_or-set_same),
-    )
+pub push-requires : goal.push-requires
+push-requires c = omega (arith, length-range_with_len c.args.first (c.loop-number.number - c.args.first), ap length c.loop-number.invariant, c.loop-number-test.true, c.requires.few)
 
-pub returns : goal.returns
-returns c =
-    let inv = c.loop-j.invariant in
-    let n = c.args.cells in
-    let long = length-range_with_len c.args.first n in
-    let short = length-take-le n c.loop-j.array (omega (arith, inv.0, c.requires.few)) in
-    ext_get_or 0 (take n c.loop-j.array) (range_with_len c.args.first n) (short ∙ sym long)
-    (λ i h. get_or-take n c.loop-j.array i 0 (omega arith) ∙ inv.1 i (omega (arith, c.loop-j-test.false)) ∙ sym (get_or-range_with_len c.args.first n i 0 (omega arith)))
+-- the number after the last
+next : (a n : ℕ) → range_with_len a (suc n) ≡ range_with_len a n ++ (a + n) ∷ []
+next a zero = ap (λ x. x ∷ []) (sym (add-zero a))
+next a (suc n) =
+    let same : (a + 1) + n ≡ a + suc n = omega arith in
+    ap (λ xs. a ∷ xs) (next (a + 1) n ∙ ap (λ x. range_with_len (a + 1) n ++ x ∷ []) same)
+
+pub loop-number-preserved : goal.loop-number-preserved
+loop-number-preserved c =
+    let a = c.args.first in
+    let x = c.loop-number.number in
+    let n = x - a in
+    let low : a ≤ x = c.loop-number.auto.number in
+    let is : a + n ≡ x = omega arith in
+    let longer : suc n ≡ x + 1 - a = omega arith in
+    c.push.ensures.items ∙ ap (λ xs. xs ++ x ∷ []) c.loop-number.invariant ∙ ap (λ y. range_with_len a n ++ y ∷ []) (sym is) ∙ sym (next a n) ∙ ap (range_with_len a) longer

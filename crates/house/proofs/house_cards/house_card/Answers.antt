@@ -8,9 +8,9 @@ use Rattle.house.proofs.house_cards.house_card.Goals as goal
 pub prime_card-requires : goal.prime_card-requires
 prime_card-requires c =
     let found = c.in_ok-row.ensures in
-    subst⁻¹ PrimeRow found.1 ((house_row_kinds _ found.0).0 (ap (λ (row : HouseRow). row.kind) (sym found.1) ∙ c.if-row-eq-KIND.true))
+    subst⁻¹ PrimeRow found.1 ((house_row_kinds _ found.0).0 (ap (λ (row : HouseRow). row.kind) (sym found.1) ∙ c.in-Prime.is))
 
 pub binary_card-requires : goal.binary_card-requires
 binary_card-requires c =
     let found = c.in_ok-row.ensures in
-    subst⁻¹ BinaryRow found.1 ((house_row_kinds _ found.0).1 (λ e. c.if-row-eq-KIND.false (ap (λ (row : HouseRow). row.kind) found.1 ∙ e)))
+    subst⁻¹ BinaryRow found.1 ((house_row_kinds _ found.0).1 (ap (λ (row : HouseRow). row.kind) (sym found.1) ∙ c.in-Binary.is))

@@ -1,8 +1,8 @@
-use Rattle.std.proofs.Common.{◌+◌, ◌-◌, ◌^◌, ◌≤◌, arith, rules}
+use Rattle.std.proofs.Common.{◌+◌, ◌-◌, ◌^◌, ◌<◌, ◌≤◌, arith, rules}
 use Rattle.std.proofs.lemmas.List.FromFn.{length-range_with_len, get_or-range_with_len}
 use Rattle.algebra.specs.Meaning.{Meaning}
 use Rattle.algebra.specs.Limits.{largest_cells}
-use Rattle.codes.specs.Cards.{Checked}
+use Rattle.codes.specs.Checked.{Checked}
 use Rattle.house.specs.HouseRows.{row_code, rule_first}
 use Rattle.house.specs.declared.house_rows.HouseRow.{HouseRow}
 use Rattle.house.proofs.house_cards.row_card.Goals as goal
@@ -11,7 +11,7 @@ few_cells : (m : Meaning) (row : HouseRow) → Checked m (row_code row) → row.
 few_cells m row checked = omega (arith, checked.shape.most_cells, length-range_with_len (rule_first row.locators) row.cells)
 
 -- the last locator is an element, so it is small
-small_locators : (m : Meaning) (row : HouseRow) → Checked m (row_code row) → rule_first row.locators + row.cells ≤ 2 ^ 32
+small_locators : (m : Meaning) (row : HouseRow) → Checked m (row_code row) → rule_first row.locators + row.cells < 2 ^ 32
 small_locators m row checked =
     let n = row.cells in
     let two = checked.shape.two_cells in
@@ -24,7 +24,7 @@ counting_from-locators-requires g c =
     record { few = few_cells _ c.args.row checked; small = omega (arith, c.first.ensures, small_locators _ c.args.row checked) }
 
 pub multipliers_by-multipliers-requires : goal.multipliers_by-multipliers-requires
-multipliers_by-multipliers-requires g c = few_cells _ c.args.row c.requires.checked
-
-pub slice_bounds-code-end : goal.slice_bounds-code-end
-slice_bounds-code-end g c = let few = few_cells _ c.args.row c.requires.checked in search rules
+multipliers_by-multipliers-requires g c =
+    let few = few_cells _ c.args.row c.requires.checked in
+    let long = length-range_with_len (rule_first c.args.row.locators) c.args.row.cells in
+    search rules
