@@ -1,14 +1,15 @@
 -- The kinds of records. Assumes nothing.
-use Rattle.std.specs.Prelude.{◌≡◌, ℕ, Some, None, Option, ◌≢◌}
+use Rattle.std.specs.Prelude.{◌≡◌, ◌≢◌, ℕ, Ok, Err, Result}
 use Rattle.trayfile.specs.declared.kind.Kind.{Kind}
 use Rattle.trayfile.specs.declared.kind.Kind.TheVariants.{Card, Cells, Note}
+use Rattle.trayfile.specs.declared.kind.NoSuchKind.{NoSuchKind}
 
 abbrev pub kind_number : Kind → ℕ
 kind_number Card = 1
 kind_number Cells = 2
 kind_number Note = 3
 
--- the kind with this number, or none has it
-abbrev pub KindOf : ℕ → Option Kind → Type 0
-KindOf number (Some kind) = number ≡ kind_number kind
-KindOf number None = (kind : Kind) → number ≢ kind_number kind
+-- the kind that has the number, or nothing where none has it
+abbrev pub KindNamed : ℕ → Result Kind NoSuchKind → Type 0
+KindNamed number (Ok kind) = number ≡ kind_number kind
+KindNamed number (Err _) = (kind : Kind) → number ≢ kind_number kind

@@ -4,10 +4,11 @@ use Rattle.std.specs.List.{between}
 use Rattle.codes.specs.declared.cell.Cell.{Cell}
 use Rattle.numbers.specs.Numbers.{largest_number, number_bytes}
 use Rattle.bodies.specs.CardBodies.{CardIn, CardRead}
-use Rattle.bodies.specs.CardShapes.{tray_code, ShapeOf}
+use Rattle.codes.specs.AnyCards.{any_code}
+use Rattle.bodies.specs.CardShapes.{ShapeOf}
 use Rattle.bodies.specs.CellBodies.{CellsIn, CellsRefused}
 use Rattle.bodies.specs.Notes.{PlainNote}
-use Rattle.bodies.specs.declared.card_body.TrayCard.{TrayCard}
+use Rattle.codes.specs.declared.any_card.AnyCard.{AnyCard}
 use Rattle.bodies.specs.declared.card_shape.CardShape.{CardShape}
 use Rattle.faults.specs.declared.body_fault.BodyFault.{BodyFault}
 use Rattle.faults.specs.declared.body_fault.BodyFault.TheVariants.{BadNote}
@@ -25,10 +26,10 @@ use Rattle.trayfile.specs.declared.record_reading.Step.{Step}
 
 -- a card's body, and the shape that cells after it have
 pub record NewCard (body : List ℕ) (turn : Turn) : Type 0 where
-  pub card : TrayCard
+  pub card : AnyCard
   pub read : CardIn body card
   pub shape : CardShape
-  pub shaped : ShapeOf (tray_code card) shape
+  pub shaped : ShapeOf (any_code card) shape
   pub next : turn ≡ InTurn shape
 
 -- A body in its turn, and what is in turn after it: a new card replaces the old one.

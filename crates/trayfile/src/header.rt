@@ -3,7 +3,7 @@ ghost use Rattle.std.specs.Prelude.{◌≡◌, length, drop};
 ghost use Rattle.trayfile.specs.Headers.{NumberAt, HeaderRead};
 
 use crate::fault::{Fault, file_fault, placed_number};
-use crate::kind::{Kind, kind_of};
+use crate::kind::Kind;
 use crate::turn::{Task, Turn, task_of};
 use faults::FileCause;
 use numbers::{NumberRead, read_number};
@@ -22,12 +22,11 @@ pub fn read_header(file: &[u8], place: usize, turn: Turn) -> Result<Header, Faul
     ensures { HeaderRead turn place (drop place file.now) result }
 {
     let kind_read = number_at(file, place, place)?;
-    let Some(kind) = kind_of(kind_read.value) else {
-        return Err(file_fault(place, FileCause::StrangeRecord));
-    };
-    let Some(task) = task_of(turn, kind) else {
-        return Err(file_fault(place, FileCause::OutOfTurn));
-    };
+    let kind = Kind::try_from(kind_read.value).map_err(|_| file_fault(
+        place,
+        FileCause::StrangeRecord,
+    ))?;
+    let task = task_of(turn, kind).ok_or(file_fault(place, FileCause::OutOfTurn))?;
     let length = number_at(file, kind_read.end, place)?;
     let body = length.end;
     let size = length.value as usize;
@@ -46,8 +45,5 @@ pub fn read_header(file: &[u8], place: usize, turn: Turn) -> Result<Header, Faul
 fn number_at(file: &[u8], start: usize, record: usize) -> Result<NumberRead, Fault>
     ensures { NumberAt (drop start file.now) start «record» result }
 {
-    match read_number(file, start) {
-        Ok(read) => Ok(read),
-        Err(cause) => Err(placed_number(record, start, cause)),
-    }
+    read_number(file, start).map_err(|cause| placed_number(record, start, cause))
 }

@@ -1,35 +1,41 @@
 // The kinds of records.
 ghost use Rattle.std.specs.Prelude.{◌≡◌};
-ghost use Rattle.trayfile.specs.Kinds.{kind_number, KindOf};
+ghost use Rattle.trayfile.specs.Kinds.{kind_number, KindNamed};
 
-#[derive(Clone, Copy)]
+use thiserror::Error;
+
+// Each kind has the number that names it in a file.
+#[derive(Clone, Copy, PartialEq, Eq, Debug)]
 pub enum Kind {
-    Card,
-    Cells,
-    Note,
+    Card = 1,
+    Cells = 2,
+    Note = 3,
 }
 
+// No kind has the number.
+#[derive(Clone, Copy, PartialEq, Eq, Debug, Error)]
+#[error("strange record")]
+pub struct NoSuchKind;
+
 impl Kind {
-    // The number that names the kind in a file.
     pub fn number(self) -> u32
         ensures { result ≡ kind_number self }
     {
-        match self {
-            Kind::Card => 1,
-            Kind::Cells => 2,
-            Kind::Note => 3,
-        }
+        self as u32
     }
 }
 
-// The kind with this number.
-pub fn kind_of(number: u32) -> Option<Kind>
-    ensures { KindOf number result }
-{
-    match number {
-        1 => Some(Kind::Card),
-        2 => Some(Kind::Cells),
-        3 => Some(Kind::Note),
-        _ => None,
+impl TryFrom<u32> for Kind {
+    type Error = NoSuchKind;
+
+    ghost try_from_gives = { KindNamed };
+
+    fn try_from(number: u32) -> Result<Kind, NoSuchKind> {
+        match number {
+            1 => Ok(Kind::Card),
+            2 => Ok(Kind::Cells),
+            3 => Ok(Kind::Note),
+            _ => Err(NoSuchKind),
+        }
     }
 }

@@ -11,7 +11,7 @@ mod record_reading;
 mod turn;
 
 pub use fault::Fault;
-pub use kind::Kind;
+pub use kind::{Kind, NoSuchKind};
 pub use limits::LONGEST_FILE;
 pub use reader::TrayReader;
 pub use record::Record;

@@ -7,7 +7,7 @@ use crate::fault::{Fault, placed_body};
 use crate::header::read_header;
 use crate::kind::Kind;
 use crate::turn::{Task, Turn};
-use bodies::{check_cells, is_plain, read_card};
+use bodies::{check_cells, is_plain, read_card, shape_of_any};
 use faults::BodyFault;
 
 // A record's kind, the places of its body's first byte and after its last, and what is in turn then.
@@ -25,6 +25,7 @@ pub fn read_record(file: &[u8], place: usize, turn: Turn) -> Result<Step, Fault>
     let header = read_header(file, place, turn)?;
     let start = header.body;
     let end = header.end;
+    // A closure for `map_err` would need the clauses of `placed_body` written out once more.
     match check_body(header.task, part(file, start, end)) {
         Ok(after) => Ok(Step {
             kind: header.kind,
@@ -54,7 +55,7 @@ fn check_body(task: Task, body: &[u8]) -> Result<Turn, BodyFault>
     match task {
         Task::Card => {
             let card = read_card(body)?;
-            Ok(Turn::InTurn(card.shape()))
+            Ok(Turn::InTurn(shape_of_any(&card)))
         }
         Task::Cells(shape) => {
             check_cells(shape, body)?;
