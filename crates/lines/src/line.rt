@@ -24,8 +24,7 @@ impl LineRefusal {
     {
         match self {
             LineRefusal::WrongLength => 25,
-            LineRefusal::UnmarkedAlphabet => 28,
-            LineRefusal::BadMark { .. } => 28,
+            LineRefusal::UnmarkedAlphabet | LineRefusal::BadMark { .. } => 28,
         }
     }
 }
@@ -60,12 +59,8 @@ fn count_marks(line: &str) -> usize
 fn first_bad(line: &str, letters: u32) -> Option<usize>
     ensures { FirstBad letters (chars line.now) result }
 {
-    for (place, mark) in line.chars().enumerate() {
-        if marked(mark, letters).is_none() {
-            return Some(place);
-        }
-    }
-    None
+    line.chars()
+        .position(|mark| marked(mark, letters).is_none())
 }
 
 fn write_marks(line: &str, letters: u32, cells: &mut [Cell])
@@ -73,6 +68,7 @@ fn write_marks(line: &str, letters: u32, cells: &mut [Cell])
     requires good { FirstBad letters (chars line.now) None }
     ensures { Marked letters (chars line.now) cells.new }
 {
+    // By the place: of a zip with `iter_mut` a proof does not know what it wrote.
     for (place, mark) in line.chars().enumerate() {
         if let Some(cell) = marked(mark, letters) {
             cells[place] = cell;
@@ -84,9 +80,5 @@ fn write_marks(line: &str, letters: u32, cells: &mut [Cell])
 fn marked(mark: char, letters: u32) -> Option<Cell>
     ensures { result ≡ marked_cell letters mark }
 {
-    let cell = read_mark(mark)?;
-    match cell.letter {
-        Some(letter) if letter >= letters => None,
-        _ => Some(cell),
-    }
+    read_mark(mark).filter(|cell| cell.letter.is_none_or(|letter| letter < letters))
 }
