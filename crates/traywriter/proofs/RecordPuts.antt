@@ -1,5 +1,5 @@
 -- A record's bytes put into a buffer. Assumes nothing.
-use Rattle.std.proofs.Common.{◌≡◌, ℕ, ◌+◌, ◌≤◌, List, ◌++◌, length, sym, ap, ◌∙◌, zero-add, arith, lit≤}
+use Rattle.std.proofs.Common.{◌≡◌, ℕ, ◌+◌, ◌≤◌, List, ◌++◌, length, Err, sym, ap, ◌∙◌, zero-add, arith, lit≤}
 use Rattle.std.proofs.lemmas.List.{append_assoc, length-append}
 use Rattle.numbers.specs.Numbers.{largest_number, number_bytes}
 use Rattle.trayfile.specs.Kinds.{kind_number}
@@ -7,7 +7,9 @@ use Rattle.trayfile.specs.declared.kind.Kind.{Kind}
 use Rattle.trayfile.specs.declared.kind.Kind.TheVariants.{Card, Cells, Note}
 use Rattle.numbers.specs.NumberWriting.{put_at}
 use Rattle.trayfile.specs.Entries.{record_bytes}
-use Rattle.traywriter.specs.Writing.{record_header, Put}
+use Rattle.traywriter.specs.Writing.{record_header, Put, HeaderWritten, RecordWritten}
+use Rattle.traywriter.specs.declared.write_refusal.WriteRefusal.{WriteRefusal}
+use Rattle.traywriter.specs.declared.write_refusal.WriteRefusal.TheVariants.{NoLetter, WrongLength, BadNote, TooSmall}
 use Rattle.traywriter.proofs.Puts.{put_front, put_next}
 
 header_body : (kind size : ℕ) (body : List ℕ) → size ≡ length body → record_header kind size ++ body ≡ record_bytes kind body
@@ -48,3 +50,11 @@ parts_put header a b d before at_a at_b at-d after place-a place-b place-d e0 p0
     let q2 = put_next 0 place-b (header ++ a) b before at_b at-d (omega arith) q1 p2 (omega arith) in
     let q3 = put_next 0 place-d ((header ++ a) ++ b) d before at-d after (omega arith) q2 p3 (omega arith) in
     q3 ∙ ap (λ (l : List ℕ). put_at 0 l before) (append_assoc (header ++ a) b d ∙ append_assoc header a (b ++ d))
+
+-- a header that is not put, so no record
+pub no_header : (kind size : ℕ) (body before after : List ℕ) (refusal : WriteRefusal) → size ≡ length body → HeaderWritten kind size before after (Err refusal) →
+    RecordWritten kind body before after (Err refusal)
+no_header kind size body before after TooSmall is small = record { small = omega (arith, small.0, record_long kind size body is); same = small.1 }
+no_header kind size body before after NoLetter is never = never
+no_header kind size body before after WrongLength is never = never
+no_header kind size body before after BadNote is never = never

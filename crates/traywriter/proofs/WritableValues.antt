@@ -4,7 +4,7 @@ use Rattle.std.proofs.lemmas.List.{append-nil}
 use Rattle.algebra.specs.Limits.{largest_cells, largest_size}
 use Rattle.algebra.specs.Meaning.{Meaning}
 use Rattle.codes.specs.Code.{Code}
-use Rattle.codes.specs.Cards.{Checked}
+use Rattle.codes.specs.Checked.{Checked}
 use Rattle.codes.specs.Verdicts.{Lettered, BelowIfNoted}
 use Rattle.codes.specs.declared.cell.Cell.{Cell}
 use Rattle.numbers.specs.Numbers.{largest_number}

@@ -5,7 +5,8 @@ use Rattle.algebra.specs.Meaning.{Meaning}
 use Rattle.fields.specs.Prime.{prime_meaning}
 use Rattle.fields.specs.Binary.{binary_meaning}
 use Rattle.codes.specs.Code.{Code}
-use Rattle.codes.specs.Cards.{Checked, card_code}
+use Rattle.codes.specs.Cards.{card_code}
+use Rattle.codes.specs.Checked.{Checked}
 use Rattle.codes.specs.Verdicts.{Lettered}
 use Rattle.codes.specs.declared.cell.Cell.{Cell}
 use Rattle.numbers.specs.Numbers.{largest_number, number_bytes}
@@ -14,8 +15,8 @@ use Rattle.bodies.specs.CardBodies.{card_body, CardIn}
 use Rattle.bodies.specs.CardShapes.{ShapeOf}
 use Rattle.bodies.specs.CellBodies.{cell_number, cells_body, CellsIn}
 use Rattle.bodies.specs.Notes.{PlainNote}
-use Rattle.bodies.specs.declared.card_body.TrayCard.{TrayCard}
-use Rattle.bodies.specs.declared.card_body.TrayCard.TheVariants.{Prime, Binary}
+use Rattle.codes.specs.declared.any_card.AnyCard.{AnyCard}
+use Rattle.codes.specs.declared.any_card.AnyCard.TheVariants.{Prime, Binary}
 use Rattle.bodies.specs.declared.card_shape.CardShape.{CardShape}
 use Rattle.bodies.proofs.OneCard.{card_reads_back}
 use Rattle.bodies.proofs.SameCells.{cells_read_back}
@@ -36,7 +37,7 @@ use Rattle.trayfile.specs.Kinds.{kind_number}
 use Rattle.traywriter.specs.Writing.{RecordWritten}
 use Rattle.traywriter.specs.declared.write_refusal.WriteRefusal.{WriteRefusal}
 use Rattle.traywriter.specs.declared.write_refusal.WriteRefusal.TheVariants.{NoLetter, WrongLength, BadNote, TooSmall}
-use Rattle.traywriter.specs.Writers.{tray_body, CheckedCard, NoteWritten}
+use Rattle.traywriter.specs.Writers.{tray_body, NoteWritten}
 use Rattle.traywriter.specs.ReadingBack.{EntryComesBack, CardComesBack, UnderCard, CellsComeBack, AfterCardOrCells, NoteComesBack, IsWritten, AcceptedIsWritten}
 use Rattle.traywriter.proofs.Puts.{three_at_most}
 use Rattle.traywriter.proofs.WritableValues.{small_cells}
@@ -60,36 +61,36 @@ body_short : (kind origin : ℕ) (m : Meaning) (code : Code) → Checked m code 
 body_short kind origin m code checked =
     omega (arith, numbers_short (kind ∷ origin ∷ code.letters ∷ length code.locators ∷ code.rows ∷ (code.locators ++ code.multipliers)), length-append code.locators code.multipliers, checked.shape.most_cells, checked.shape.a_multiplier_each)
 
-card_follows : (card : TrayCard) → CheckedCard card → (turn : Turn) → (next : Turn) × Follows turn (entry kinds.Card (tray_body card)) next
-card_follows (Prime card) checked turn =
-    let shape : CardShape = record { cells = length (card_code card).locators; letters = (card_code card).letters; few = checked.shape.most_cells } in (
+card_follows : (card : AnyCard) (turn : Turn) → (next : Turn) × Follows turn (entry kinds.Card (tray_body card)) next
+card_follows (Prime card) turn =
+    let shape : CardShape = record { cells = length (card_code card).locators; letters = (card_code card).letters; few = card.checked.shape.most_cells } in (
       InTurn shape,
       record {
         task = tasks.Card;
         in_turn = card_in_turn turn;
-        small = body_short 1 card.field.prime (prime_meaning card.field) (card_code card) checked;
-        done = record { card = Prime card; read = record { checked = checked; written = refl }; shape = shape; shaped = record { cells = refl; letters = refl }; next = refl };
+        small = body_short 1 card.field.prime (prime_meaning card.field) (card_code card) card.checked;
+        done = record { card = Prime card; read = record { checked = card.checked; written = refl }; shape = shape; shaped = record { cells = refl; letters = refl }; next = refl };
       },
     )
-card_follows (Binary card) checked turn =
-    let shape : CardShape = record { cells = length (card_code card).locators; letters = (card_code card).letters; few = checked.shape.most_cells } in (
+card_follows (Binary card) turn =
+    let shape : CardShape = record { cells = length (card_code card).locators; letters = (card_code card).letters; few = card.checked.shape.most_cells } in (
       InTurn shape,
       record {
         task = tasks.Card;
         in_turn = card_in_turn turn;
-        small = body_short 2 card.field.modulus (binary_meaning card.field) (card_code card) checked;
-        done = record { card = Binary card; read = record { checked = checked; written = refl }; shape = shape; shaped = record { cells = refl; letters = refl }; next = refl };
+        small = body_short 2 card.field.modulus (binary_meaning card.field) (card_code card) card.checked;
+        done = record { card = Binary card; read = record { checked = card.checked; written = refl }; shape = shape; shaped = record { cells = refl; letters = refl }; next = refl };
       },
     )
 
-card_in : (card : TrayCard) → CheckedCard card → CardIn (tray_body card) card
-card_in (Prime card) checked = record { checked = checked; written = refl }
-card_in (Binary card) checked = record { checked = checked; written = refl }
+card_in : (card : AnyCard) → CardIn (tray_body card) card
+card_in (Prime card) = record { checked = card.checked; written = refl }
+card_in (Binary card) = record { checked = card.checked; written = refl }
 
-pub card_comes_back : (card : TrayCard) → CheckedCard card → CardComesBack card
-card_comes_back card checked = record {
-  answered = comes_back (λ reader. Unit {0}) (entry kinds.Card (tray_body card)) (λ reader ready. card_follows card checked reader.turn);
-  read = λ r read. card_reads_back (tray_body card) card r (card_in card checked) read;
+pub card_comes_back : (card : AnyCard) → CardComesBack card
+card_comes_back card = record {
+  answered = comes_back (λ reader. Unit {0}) (entry kinds.Card (tray_body card)) (λ reader ready. card_follows card reader.turn);
+  read = λ r read. card_reads_back (tray_body card) card r (card_in card) read;
 }
 
 module _ (m : Meaning) (code : Code) (cells : List Cell) (checked : Checked m code) (count : length cells ≡ length code.locators) (lettered : Lettered code.letters cells) where
@@ -155,14 +156,14 @@ same_task o a b e f = cc
 no_task : (a : Task) → None ≡ Some a → ⊥
 no_task a e = let never : ◌≡◌ {A = ℕ} 0 1 = cc in absurd (omega arith)
 
-card_is_written : (body : List ℕ) (card : TrayCard) → CardIn body card → CheckedCard card × (body ≡ tray_body card)
-card_is_written body (Prime card) is = (is.checked, is.written)
-card_is_written body (Binary card) is = (is.checked, is.written)
+card_is_written : (body : List ℕ) (card : AnyCard) → CardIn body card → body ≡ tray_body card
+card_is_written body (Prime card) is = is.written
+card_is_written body (Binary card) is = is.written
 
 done_is_written : (turn : Turn) (kind : Kind) (body : List ℕ) (next : Turn) (task : Task) → task_for turn kind ≡ Some task → Done task body next → IsWritten kind body
 done_is_written turn kinds.Card body next task in_turn done =
     let card = subst (λ (t : Task). Done t body next) (same_task (task_for turn kinds.Card) tasks.Card task (card_in_turn turn) in_turn) done in
-    (card.card, (card_is_written body card.card card.read).0, (card_is_written body card.card card.read).1)
+    (card.card, card_is_written body card.card card.read)
 done_is_written Start kinds.Cells body next task in_turn done = absurd (no_task task in_turn)
 done_is_written (InTurn shape) kinds.Cells body next task in_turn done =
     let read = subst (λ (t : Task). Done t body next) (same_task (Some (tasks.Cells shape)) (tasks.Cells shape) task refl in_turn) done in

@@ -8,7 +8,7 @@ use Rattle.bodies.specs.CardShapes.{ShapeOf}
 use Rattle.bodies.specs.CellBodies.{cells_body, CellsReadInto}
 use Rattle.bodies.specs.Notes.{PlainNote}
 use Rattle.bodies.specs.SameCards.{SameCard}
-use Rattle.bodies.specs.declared.card_body.TrayCard.{TrayCard}
+use Rattle.codes.specs.declared.any_card.AnyCard.{AnyCard}
 use Rattle.bodies.specs.declared.card_shape.CardShape.{CardShape}
 use Rattle.bodies.specs.declared.cells_refusal.CellsRefusal.{CellsRefusal}
 use Rattle.faults.specs.declared.body_fault.BodyFault.{BodyFault}
@@ -22,7 +22,7 @@ use Rattle.trayfile.specs.declared.turn.Turn.{Turn}
 use Rattle.trayfile.specs.declared.turn.Turn.TheVariants.{InTurn, AfterNote}
 use Rattle.trayfile.specs.declared.kind.Kind.{Kind}
 use Rattle.trayfile.specs.Records.{Follows}
-use Rattle.traywriter.specs.Writers.{tray_body, CheckedCard}
+use Rattle.traywriter.specs.Writers.{tray_body}
 
 -- Whatever follows an entry's bytes, a reader that stands before them, has met no fault, and for which `Ready` holds, answers that entry and
 -- then stands right after it.
@@ -31,9 +31,9 @@ EntryComesBack Ready e = (before : TrayReader) (rest : List ℕ) (answer : Optio
     Ready before → before.fault ≡ None → left_of before ≡ entry_bytes e ++ rest → Next before answer after → ComesBack before e answer after
 
 -- A card comes back in every turn, and its body is read as the same card.
-pub record CardComesBack (card : TrayCard) : Type 0 where
+pub record CardComesBack (card : AnyCard) : Type 0 where
   pub answered : EntryComesBack (λ reader. Unit {0}) (entry Card (tray_body card))
-  pub read : (r : Result TrayCard BodyFault) → CardRead (tray_body card) r → (found : TrayCard) × (r ≡ Ok found) × SameCard card found
+  pub read : (r : Result AnyCard BodyFault) → CardRead (tray_body card) r → (found : AnyCard) × (r ≡ Ok found) × SameCard card found
 
 -- the reader has read a card of this shape
 abbrev pub UnderCard : Code → TrayReader → Type 0
@@ -53,9 +53,9 @@ AfterCardOrCells reader = (shape : CardShape) × (reader.turn ≡ InTurn shape)
 abbrev pub NoteComesBack : List ℕ → Type 0
 NoteComesBack note = EntryComesBack AfterCardOrCells (entry Note note)
 
--- The record is the one that its writer makes: of a checked card, of cells with letters in the alphabet, or of a plain note.
+-- The record is the one that its writer makes: of a card, of cells with letters in the alphabet, or of a plain note.
 abbrev pub IsWritten : Kind → List ℕ → Type 0
-IsWritten Card body = (card : TrayCard) × CheckedCard card × (body ≡ tray_body card)
+IsWritten Card body = (card : AnyCard) × (body ≡ tray_body card)
 IsWritten Cells body = (shape : CardShape) × (cells : List Cell) × (length cells ≡ shape.cells) × Lettered shape.letters cells × (body ≡ cells_body cells)
 IsWritten Note body = PlainNote body
 

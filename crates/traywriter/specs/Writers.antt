@@ -1,10 +1,8 @@
 -- What each writer writes, and when it refuses. Assumes nothing.
 use Rattle.std.specs.Prelude.{◌≡◌, ℕ, ◌+◌, ◌^◌, ◌<◌, ◌≤◌, List, length, Some, None, Ok, Err, Option, Result, ◌≢◌}
 use Rattle.algebra.specs.Limits.{largest_cells, largest_rows}
-use Rattle.fields.specs.Prime.{prime_meaning}
-use Rattle.fields.specs.Binary.{binary_meaning}
 use Rattle.codes.specs.Code.{Code}
-use Rattle.codes.specs.Cards.{Checked, card_code}
+use Rattle.codes.specs.Cards.{card_code}
 use Rattle.codes.specs.Verdicts.{Lettered}
 use Rattle.fields.specs.Kinds.{prime_kind, binary_kind}
 use Rattle.codes.specs.declared.cell.Cell.{Cell}
@@ -13,8 +11,8 @@ use Rattle.bodies.specs.NumberLists.{Small}
 use Rattle.bodies.specs.CardBodies.{card_body}
 use Rattle.bodies.specs.CellBodies.{cells_body}
 use Rattle.bodies.specs.Notes.{PlainNote}
-use Rattle.bodies.specs.declared.card_body.TrayCard.{TrayCard}
-use Rattle.bodies.specs.declared.card_body.TrayCard.TheVariants.{Prime, Binary}
+use Rattle.codes.specs.declared.any_card.AnyCard.{AnyCard}
+use Rattle.codes.specs.declared.any_card.AnyCard.TheVariants.{Prime, Binary}
 use Rattle.trayfile.specs.Kinds.{kind_number}
 use Rattle.trayfile.specs.declared.kind.Kind.TheVariants.{Card, Cells, Note}
 use Rattle.traywriter.specs.Writing.{Put, NoRoom, RecordWritten}
@@ -22,14 +20,9 @@ use Rattle.traywriter.specs.declared.write_refusal.WriteRefusal.{WriteRefusal}
 use Rattle.traywriter.specs.declared.write_refusal.WriteRefusal.TheVariants.{NoLetter, WrongLength, BadNote, TooSmall}
 
 -- the body of a card
-abbrev pub tray_body : TrayCard → List ℕ
+abbrev pub tray_body : AnyCard → List ℕ
 tray_body (Prime card) = card_body prime_kind card.field.prime (card_code card)
 tray_body (Binary card) = card_body binary_kind card.field.modulus (card_code card)
-
--- the card keeps every rule
-abbrev pub CheckedCard : TrayCard → Type 0
-CheckedCard (Prime card) = Checked (prime_meaning card.field) (card_code card)
-CheckedCard (Binary card) = Checked (binary_meaning card.field) (card_code card)
 
 -- values that can be written as numbers
 pub record Writable (kind origin : ℕ) (code : Code) : Type 0 where
@@ -43,7 +36,7 @@ pub record Writable (kind origin : ℕ) (code : Code) : Type 0 where
   pub small_multipliers : Small code.multipliers
 
 -- The card's record stands at the buffer's front; or the buffer is too small, and as it was.
-abbrev pub CardWritten : TrayCard → List ℕ → List ℕ → Result ℕ WriteRefusal → Type 0
+abbrev pub CardWritten : AnyCard → List ℕ → List ℕ → Result ℕ WriteRefusal → Type 0
 CardWritten card before after r = RecordWritten (kind_number Card) (tray_body card) before after r
 
 -- a letter that leaves room for the next number

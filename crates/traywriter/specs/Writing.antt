@@ -1,7 +1,8 @@
 -- One record at the front of a buffer. Assumes nothing.
-use Rattle.std.specs.Prelude.{◌≡◌, ℕ, ◌<◌, ◌≤◌, List, ◌++◌, length, drop, Ok, Err, Result}
+use Rattle.std.specs.Prelude.{◌≡◌, ℕ, ◌+◌, ◌<◌, ◌≤◌, List, ◌++◌, length, drop, Ok, Err, Result}
 use Rattle.algebra.specs.Limits.{largest_cells}
 use Rattle.numbers.specs.Numbers.{number_bytes}
+use Rattle.numbers.specs.NumberWriting.{put_at}
 use Rattle.bodies.specs.NumberLists.{numbers, Small}
 use Rattle.trayfile.specs.Entries.{record_bytes}
 use Rattle.traywriter.specs.declared.write_refusal.WriteRefusal.{WriteRefusal}
@@ -35,6 +36,17 @@ pub record Put (kind : ℕ) (body before after : List ℕ) (written : ℕ) : Typ
 pub record NoRoom (kind : ℕ) (body before after : List ℕ) : Type 0 where
   pub small : length before < length (record_bytes kind body)
   pub same : after ≡ before
+
+-- The header stands at the buffer's front, and the answer is the place after it; or the buffer can't take a body of that size too, and is
+-- as it was.
+abbrev pub HeaderWritten : ℕ → ℕ → List ℕ → List ℕ → Result ℕ WriteRefusal → Type 0
+HeaderWritten kind size before after (Ok place) =
+    (length (record_header kind size) + size ≤ length before) × (place ≡ length (record_header kind size))
+    × (after ≡ put_at 0 (record_header kind size) before)
+HeaderWritten kind size before after (Err TooSmall) = (length before < length (record_header kind size) + size) × (after ≡ before)
+HeaderWritten kind size before after (Err NoLetter) = ⊥
+HeaderWritten kind size before after (Err WrongLength) = ⊥
+HeaderWritten kind size before after (Err BadNote) = ⊥
 
 abbrev pub RecordWritten : ℕ → List ℕ → List ℕ → List ℕ → Result ℕ WriteRefusal → Type 0
 RecordWritten kind body before after (Ok written) = Put kind body before after written

@@ -1,10 +1,9 @@
 // Puts one record at the front of a buffer.
 ghost use Rattle.std.specs.Prelude.{◌≡◌, ◌+◌, ◌≤◌, length};
 ghost use Rattle.numbers.specs.Numbers.{largest_number};
-ghost use Rattle.numbers.specs.NumberWriting.{put_at};
 ghost use Rattle.bodies.specs.Notes.{longest_note};
 ghost use Rattle.trayfile.specs.Kinds.{kind_number};
-ghost use Rattle.traywriter.specs.Writing.{NumberRecord, RecordWritten, body_numbers, record_header};
+ghost use Rattle.traywriter.specs.Writing.{NumberRecord, HeaderWritten, RecordWritten, body_numbers, record_header};
 
 use crate::number_writing::{list_length, put_bytes, put_list, put_one};
 use crate::write_refusal::WriteRefusal;
@@ -28,27 +27,18 @@ pub fn write_numbers(
     ensures { RecordWritten (kind_number kind) (body_numbers body.entry) buffer.old buffer.new result }
 {
     let size = list_length(body.head) + list_length(body.first) + list_length(body.second);
-    if buffer.len() < record_size(kind, size) {
-        return Err(WriteRefusal::TooSmall);
-    }
-    let head_place = put_header(kind, size, buffer);
+    let head_place = put_header(kind, size, buffer)?;
     let first_place = put_list(body.head, buffer, head_place);
     let second_place = put_list(body.first, buffer, first_place);
-    let end = put_list(body.second, buffer, second_place);
-    Ok(end)
+    Ok(put_list(body.second, buffer, second_place))
 }
 
 pub fn write_bytes(kind: Kind, body: &[u8], buffer: &mut [u8]) -> Result<usize, WriteRefusal>
     requires { length body.now ≤ longest_note }
     ensures { RecordWritten (kind_number kind) body.now buffer.old buffer.new result }
 {
-    let size = body.len();
-    if buffer.len() < record_size(kind, size) {
-        return Err(WriteRefusal::TooSmall);
-    }
-    let body_place = put_header(kind, size, buffer);
-    let end = put_bytes(body, buffer, body_place);
-    Ok(end)
+    let body_place = put_header(kind, body.len(), buffer)?;
+    Ok(put_bytes(body, buffer, body_place))
 }
 
 // How many bytes a record with a body of `size` bytes has.
@@ -59,14 +49,14 @@ fn record_size(kind: Kind, size: usize) -> usize
     number_length(kind.number()) + number_length(size as u32) + size
 }
 
-// Puts the kind and the body's length at the front, and answers the place of the body.
-fn put_header(kind: Kind, size: usize, buffer: &mut [u8]) -> usize
-    requires small { size ≤ largest_number }
-    requires room { length (record_header (kind_number kind) size) ≤ length buffer.old }
-    ensures place { result ≡ length (record_header (kind_number kind) size) }
-    ensures bytes { buffer.new ≡ put_at 0 (record_header (kind_number kind) size) buffer.old }
+// Puts the kind and the body's length at the front, where there is room for the whole record, and answers the place of the body.
+fn put_header(kind: Kind, size: usize, buffer: &mut [u8]) -> Result<usize, WriteRefusal>
+    requires { size ≤ largest_number }
+    ensures { HeaderWritten (kind_number kind) size buffer.old buffer.new result }
 {
+    if buffer.len() < record_size(kind, size) {
+        return Err(WriteRefusal::TooSmall);
+    }
     let length_place = put_one(kind.number(), buffer, 0);
-    let body_place = put_one(size as u32, buffer, length_place);
-    body_place
+    Ok(put_one(size as u32, buffer, length_place))
 }

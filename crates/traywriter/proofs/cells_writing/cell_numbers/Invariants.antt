@@ -1,7 +1,6 @@
-use Rattle.std.proofs.Common.{◌≡◌, map, length, take}
-use Rattle.algebra.specs.Limits.{largest_cells}
+use Rattle.std.proofs.Common.{◌≡◌, map, take}
 use Rattle.bodies.specs.CellBodies.{cell_number}
 use Rattle.traywriter.proofs.cells_writing.cell_numbers.Given as goal
 
-abbrev pub invariant-loop-j : goal.invariant-loop-j
-invariant-loop-j l = (take l.j l.numbers ≡ map cell_number (take l.j l.cells)) × (length l.numbers ≡ largest_cells)
+abbrev pub invariant-loop-cell : goal.invariant-loop-cell
+invariant-loop-cell l = l.numbers.items ≡ map cell_number (take l.cell-index l.cells)
