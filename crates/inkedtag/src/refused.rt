@@ -15,6 +15,12 @@ pub struct RefusedLine {
     pub marks: usize,
 }
 
+fn marks_in(line: &str) -> usize
+    ensures { result ≡ length (chars line.now) }
+{
+    line.chars().count()
+}
+
 impl RefusedLine {
     pub fn new(refusal: LineRefusal, wanted: usize, line: &str) -> RefusedLine
         ensures refusal { result.refusal ≡ refusal }
@@ -24,7 +30,7 @@ impl RefusedLine {
         RefusedLine {
             refusal,
             wanted,
-            marks: line.chars().count(),
+            marks: marks_in(line),
         }
     }
 }
@@ -65,7 +71,7 @@ impl RefusedData {
     {
         RefusedData {
             refusal,
-            marks: line.chars().count(),
+            marks: marks_in(line),
         }
     }
 }

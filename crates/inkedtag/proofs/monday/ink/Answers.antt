@@ -7,5 +7,5 @@ use Rattle.inkedtag.proofs.monday.ink.Goals as goal
 
 pub encoded-requires : goal.encoded-requires
 encoded-requires c =
-    marked_below 37 (chars c.args.line.now) c.in-Ok-letters_of.letters
-    (subst (λ (cells : List Cell). Marked 37 (chars c.args.line.now) cells) c.in-Ok-letters_of.ensures c.in-Ok.ensures.2)
+    marked_below 37 (chars c.args.line.now) c.in_ok-letters.letters
+    (subst (λ (cells : List Cell). Marked 37 (chars c.args.line.now) cells) c.in_ok-letters.ensures c.in_ok-read_line.ensures.2)

@@ -5,14 +5,14 @@ use Rattle.inkedtag.proofs.monday.letters_of.Goals as goal
 
 pub returns-in_default : goal.returns-in_default
 returns-in_default c =
-    let inv = c.loop-j.invariant in
+    let inv = c.loop-place.invariant in
     record { within = search rules; blank = c.in_default.is; before = λ j h none. let z : ◌≡◌ {A = ℕ} 0 1 = cc (inv.1 j h) in omega arith }
 
 pub returns : goal.returns
 returns c =
     let cells = c.args.cells.now in
-    let letters = c.loop-j.letters in
-    let inv = c.loop-j.invariant in
+    let letters = c.loop-place.letters in
+    let inv = c.loop-place.invariant in
     let twelve : length cells ≡ 12 = search rules in
     ext_get_or blank_cell cells (noted letters) (twelve ∙ sym inv.0 ∙ sym (length-map letters noted_cell))
     (λ i h. ap (λ (letter : Option ℕ). record { letter = letter }) (inv.1 i (omega arith)) ∙ sym (get_or-map noted_cell letters i 0 blank_cell (omega arith)))
