@@ -6,7 +6,7 @@ pub struct CodeRef<'a> {
     pub letters: u32,
     // How many sums a codeword makes 0.
     pub rows: usize,
-    // One locator and one multiplier for each cell.
+    // One locator and one multiplier for each cell. Two lists and not one of pairs: a card is refused where their lengths differ.
     pub locators: &'a [u32],
     pub multipliers: &'a [u32],
 }

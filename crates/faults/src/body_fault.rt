@@ -27,6 +27,7 @@ pub enum BodyFault {
     Tag(TagCause),
 }
 
+// Cases hold other causes, so the numbers cannot stand at the cases.
 impl BodyFault {
     pub fn number(self) -> u32
         ensures { result ≡ body_fault_number self }

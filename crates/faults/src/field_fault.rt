@@ -13,6 +13,7 @@ pub enum FieldFault {
     Made(FieldCause),
 }
 
+// A case holds another cause, so the numbers cannot stand at the cases.
 impl FieldFault {
     pub fn number(self) -> u32
         ensures { result ≡ field_fault_number self }

@@ -5,7 +5,7 @@ ghost use Rattle.algebra.specs.Alphabet.{Alphabet};
 use crate::field::Field;
 
 pub trait LetteredField: Field {
-    // The number that names the kind in a tray file.
+    // The number that names the kind in a tray file. A number and no enum, since kinds are made outside the library too.
     const KIND: u32;
 
     // May the numbers below `letters` be letters?

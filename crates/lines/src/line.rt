@@ -18,6 +18,7 @@ pub enum LineRefusal {
     BadMark { place: usize },
 }
 
+// A case holds a place, so the numbers cannot stand at the cases.
 impl LineRefusal {
     pub fn number(self) -> u32
         ensures { result ≡ line_number self }

@@ -53,6 +53,7 @@ fn field_case<F: LetteredField + Drop>(
 ) -> anyhow::Result<String>
     requires { F.Field.accepted field }
 {
+    // One word, one call: a table of closures would be no plainer.
     match word {
         "field" => taken(heap, &field),
         "arithmetic" => arithmetic(heap, &field, numbers),

@@ -1,4 +1,5 @@
-// Worked examples, whose results are proved.
+// Worked examples, whose results are proved. Each stands as it is printed elsewhere: one function for both would take all of an
+// example as its arguments.
 ghost use Rattle.std.specs.Prelude.{◌≡◌, [], ◌∷◌};
 
 use codes::{Cell, CodeOver, CodeRef};
