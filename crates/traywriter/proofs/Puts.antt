@@ -1,9 +1,12 @@
 -- Bytes put into a buffer, one after another. Assumes nothing.
-use Rattle.std.proofs.Common.{◌≡◌, ℕ, zero, suc, ◌+◌, ◌<◌, ◌≤◌, List, [], ◌∷◌, ◌++◌, length, get_or, take, drop, sym, ap, ◌∙◌, ap₂, ⊎_elim, zero-add, arith}
+use Rattle.std.proofs.Common.{◌≡◌, ℕ, zero, suc, ◌+◌, ◌<◌, ◌≤◌, List, [], ◌∷◌, ◌++◌, length, get_or, take, drop, sym, refl, ap, ◌∙◌, ap₂, ⊎_elim, add-zero, zero-add, arith}
 use Rattle.std.proofs.lemmas.List.{append_assoc, length-append, length-drop, length-take-le, take_at, drop_at, drop-drop, take-append-drop, take_more}
 use Rattle.numbers.specs.Numbers.{largest_number, number_bytes}
 use Rattle.numbers.specs.NumberWriting.{put_at}
 use Rattle.numbers.proofs.NumberBytes.{bytes_of}
+use Rattle.numbers.proofs.WrittenBytes.{put_none}
+use Rattle.traywriter.specs.Pages.{Added}
+use Rattle.traywriter.specs.declared.page.Page.{Page}
 use Rattle.bodies.specs.NumberLists.{numbers, Small}
 use Rattle.bodies.proofs.NumberLists.{numbers_append, numbers_one}
 
@@ -63,3 +66,16 @@ pub put_next : (start end : ℕ) (first second before between after : List ℕ) 
     after ≡ put_at end second between → start + length first ≤ length before → after ≡ put_at start (first ++ second) before
 put_next start end first second before between after is put next room =
     next ∙ ap₂ (λ n (l : List ℕ). put_at n second l) is put ∙ put_join start first second before room
+
+-- nothing was put
+pub added_none : (page : Page) → Added [] page page
+added_none page = record { place = sym (add-zero page.place); bytes_are = sym (put_none page.place page.buffer.now); same_buffer = refl }
+
+-- more bytes after others
+pub added_next : (first second : List ℕ) (before between after : Page) → before.place + length first ≤ length before.buffer.now →
+    Added first before between → Added second between after → Added (first ++ second) before after
+added_next first second before between after room put next = record {
+  place = omega (arith, put.place, next.place, length-append first second);
+  bytes_are = put_next before.place between.place first second before.buffer.now between.buffer.now after.buffer.now put.place put.bytes_are next.bytes_are room;
+  same_buffer = next.same_buffer ∙ put.same_buffer;
+}

@@ -1,4 +1,5 @@
 pub mod WriteRefusals
 pub mod Writing
+pub mod Pages
 pub mod Writers
 pub mod ReadingBack

@@ -2,7 +2,8 @@
 use Rattle.std.specs.Prelude.{◌≡◌, ℕ, ◌+◌, ◌<◌, ◌≤◌, List, ◌++◌, length, drop, Ok, Err, Result}
 use Rattle.algebra.specs.Limits.{largest_cells}
 use Rattle.numbers.specs.Numbers.{number_bytes}
-use Rattle.numbers.specs.NumberWriting.{put_at}
+use Rattle.traywriter.specs.Pages.{Added}
+use Rattle.traywriter.specs.declared.page.Page.{Page}
 use Rattle.bodies.specs.NumberLists.{numbers, Small}
 use Rattle.trayfile.specs.Entries.{record_bytes}
 use Rattle.traywriter.specs.declared.write_refusal.WriteRefusal.{WriteRefusal}
@@ -39,11 +40,10 @@ pub record NoRoom (kind : ℕ) (body before after : List ℕ) : Type 0 where
 
 -- The header stands at the buffer's front, and the answer is the place after it; or the buffer can't take a body of that size too, and is
 -- as it was.
-abbrev pub HeaderWritten : ℕ → ℕ → List ℕ → List ℕ → Result ℕ WriteRefusal → Type 0
-HeaderWritten kind size before after (Ok place) =
-    (length (record_header kind size) + size ≤ length before) × (place ≡ length (record_header kind size))
-    × (after ≡ put_at 0 (record_header kind size) before)
-HeaderWritten kind size before after (Err TooSmall) = (length before < length (record_header kind size) + size) × (after ≡ before)
+abbrev pub HeaderWritten : ℕ → ℕ → Page → Page → Result (Unit {0}) WriteRefusal → Type 0
+HeaderWritten kind size before after (Ok done) =
+    (length (record_header kind size) + size ≤ length before.buffer.now) × Added (record_header kind size) before after
+HeaderWritten kind size before after (Err TooSmall) = (length before.buffer.now < length (record_header kind size) + size) × (after ≡ before)
 HeaderWritten kind size before after (Err NoLetter) = ⊥
 HeaderWritten kind size before after (Err WrongLength) = ⊥
 HeaderWritten kind size before after (Err BadNote) = ⊥

@@ -4,7 +4,7 @@
 mod card_writing;
 mod cells_writing;
 mod note_writing;
-mod number_writing;
+mod page;
 mod record_writing;
 mod write_refusal;
 

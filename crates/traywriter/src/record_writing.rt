@@ -1,11 +1,13 @@
 // Puts one record at the front of a buffer.
-ghost use Rattle.std.specs.Prelude.{◌≡◌, ◌+◌, ◌≤◌, length};
+ghost use Rattle.std.specs.Prelude.{◌≡◌, ◌+◌, ◌*◌, ◌≤◌, length};
+ghost use Rattle.algebra.specs.Limits.{largest_cells};
 ghost use Rattle.numbers.specs.Numbers.{largest_number};
+ghost use Rattle.bodies.specs.NumberLists.{numbers};
 ghost use Rattle.bodies.specs.Notes.{longest_note};
 ghost use Rattle.trayfile.specs.Kinds.{kind_number};
 ghost use Rattle.traywriter.specs.Writing.{NumberRecord, HeaderWritten, RecordWritten, body_numbers, record_header};
 
-use crate::number_writing::{list_length, put_bytes, put_list, put_one};
+use crate::page::Page;
 use crate::write_refusal::WriteRefusal;
 use numbers::number_length;
 use trayfile::Kind;
@@ -27,18 +29,35 @@ pub fn write_numbers(
     ensures { RecordWritten (kind_number kind) (body_numbers body.entry) buffer.old buffer.new result }
 {
     let size = list_length(body.head) + list_length(body.first) + list_length(body.second);
-    let head_place = put_header(kind, size, buffer)?;
-    let first_place = put_list(body.head, buffer, head_place);
-    let second_place = put_list(body.first, buffer, first_place);
-    Ok(put_list(body.second, buffer, second_place))
+    let mut page = Page { buffer, place: 0 };
+    page.put_header(kind, size)?;
+    page.put_list(body.head);
+    page.put_list(body.first);
+    page.put_list(body.second);
+    Ok(page.place)
 }
 
 pub fn write_bytes(kind: Kind, body: &[u8], buffer: &mut [u8]) -> Result<usize, WriteRefusal>
     requires { length body.now ≤ longest_note }
     ensures { RecordWritten (kind_number kind) body.now buffer.old buffer.new result }
 {
-    let body_place = put_header(kind, body.len(), buffer)?;
-    Ok(put_bytes(body, buffer, body_place))
+    let mut page = Page { buffer, place: 0 };
+    page.put_header(kind, body.len())?;
+    page.put_bytes(body);
+    Ok(page.place)
+}
+
+// How many bytes a list of numbers is written in.
+fn list_length(list: &[u32]) -> usize
+    requires { length list.now ≤ largest_cells }
+    ensures is { result ≡ length (numbers list.now) }
+    ensures bound { result ≤ 3 * largest_cells }
+{
+    let mut size = 0;
+    for value in list {
+        size += number_length(*value);
+    }
+    size
 }
 
 // How many bytes a record with a body of `size` bytes has.
@@ -49,14 +68,18 @@ fn record_size(kind: Kind, size: usize) -> usize
     number_length(kind.number()) + number_length(size as u32) + size
 }
 
-// Puts the kind and the body's length at the front, where there is room for the whole record, and answers the place of the body.
-fn put_header(kind: Kind, size: usize, buffer: &mut [u8]) -> Result<usize, WriteRefusal>
-    requires { size ≤ largest_number }
-    ensures { HeaderWritten (kind_number kind) size buffer.old buffer.new result }
-{
-    if buffer.len() < record_size(kind, size) {
-        return Err(WriteRefusal::TooSmall);
+impl Page<'_> {
+    // Puts the kind and the body's length at the front, where there is room for the whole record.
+    fn put_header(&mut self, kind: Kind, size: usize) -> Result<(), WriteRefusal>
+        requires small { size ≤ largest_number }
+        requires front { self.old.place ≡ 0 }
+        ensures { HeaderWritten (kind_number kind) size self.old self.new result }
+    {
+        if self.buffer.len() < record_size(kind, size) {
+            return Err(WriteRefusal::TooSmall);
+        }
+        self.put_number(kind.number());
+        self.put_number(size as u32);
+        Ok(())
     }
-    let length_place = put_one(kind.number(), buffer, 0);
-    Ok(put_one(size as u32, buffer, length_place))
 }

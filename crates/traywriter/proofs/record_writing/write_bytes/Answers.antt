@@ -1,24 +1,18 @@
-use Rattle.std.proofs.Common.{length, sym, refl, ◌∙◌, zero-add, arith}
-use Rattle.std.proofs.lemmas.Result.{err_from_is_err_and}
+use Rattle.std.proofs.Common.{List, ℕ, length, sym, refl, arith, rules}
+use mathlib.Core.Path.{subst⁻¹}
 use Rattle.trayfile.specs.Kinds.{kind_number}
-use Rattle.traywriter.specs.Writing.{record_header}
-use Rattle.traywriter.proofs.Puts.{put_next}
-use Rattle.traywriter.proofs.RecordPuts.{record_put, no_header}
+use Rattle.traywriter.specs.Writing.{record_header, Put}
+use Rattle.traywriter.proofs.Puts.{added_next}
+use Rattle.traywriter.proofs.RecordPuts.{record_put}
 use Rattle.traywriter.proofs.record_writing.write_bytes.Goals as goal
-
-pub returns-in_err-body_place : goal.returns-in_err-body_place
-returns-in_err-body_place c =
-    let p = err_from_is_err_and c.from_residual.result c.from_residual.ensures.1 in
-    rw (p.1, p.2) (no_header _ _ c.args.body.now _ _ _ refl c.in_err-body_place.ensures)
 
 pub returns : goal.returns
 returns c =
     let k = kind_number c.args.kind in
     let body = c.args.body.now in
     let buffer = c.args.buffer.now in
-    let header = record_header k (length body) in
-    let first = c.in_ok-body_place.ensures in
-    let second = c.put_bytes.ensures in
-    record_put k (length body) body buffer c.put_bytes.new.buffer c.put_bytes.result refl first.0
-    (put_next 0 c.in_ok-body_place.body_place header body buffer c.put_header.new.buffer _ (first.1 ∙ sym (zero-add (length header))) first.2 second.bytes (omega (arith, first.0)))
-    (omega (arith, first.1, second.place))
+    let put = c.in_ok-put_header.ensures in
+    let whole = added_next (record_header k (length body)) body _ _ _ (omega (arith, put.0)) put.1 c.put_bytes.ensures in
+    let named = sym whole.same_buffer in
+    subst⁻¹ (λ (l : List ℕ). Put k body buffer l c.put_bytes.new.self.place) (search (rules, named))
+    (record_put k (length body) body buffer c.put_bytes.new.self.buffer.now c.put_bytes.new.self.place refl put.0 whole.bytes_are (omega (arith, put.1.place, c.put_bytes.ensures.place)))

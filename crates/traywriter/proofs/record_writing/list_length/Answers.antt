@@ -2,7 +2,7 @@ use Rattle.std.proofs.Common.{ℕ, List, length, get_or, ap, ◌∙◌, arith}
 use Rattle.std.proofs.lemmas.List.{take_all}
 use Rattle.bodies.specs.NumberLists.{numbers}
 use Rattle.traywriter.proofs.Puts.{three_at_most, length_more}
-use Rattle.traywriter.proofs.number_writing.list_length.Goals as goal
+use Rattle.traywriter.proofs.record_writing.list_length.Goals as goal
 
 pub overflow_add-size : goal.overflow_add-size
 overflow_add-size c =

@@ -1,0 +1,31 @@
+use Rattle.std.proofs.Common.{ℕ, ◌+◌, List, length, get_or, take, sym, ap, arith, subst}
+use Rattle.std.proofs.lemmas.List.{take_all}
+use Rattle.numbers.specs.Numbers.{number_bytes}
+use Rattle.bodies.specs.NumberLists.{numbers}
+use Rattle.traywriter.specs.Pages.{Added}
+use Rattle.traywriter.proofs.Puts.{added_none, added_next, numbers_more, length_more, front_within, small_at, length_put}
+use Rattle.traywriter.proofs.page.Page.put_list.Goals as goal
+
+pub loop-value-init : goal.loop-value-init
+loop-value-init c = added_none c.args.self.now
+
+pub put_number-requires : goal.put_number-requires
+put_number-requires c =
+    let list = c.args.list.now in
+    let j = c.loop-value.value-index in
+    let inv = c.loop-value.invariant in
+    let more = length_more list j (omega arith) in
+    let within = front_within list (j + 1) in
+    record { small = small_at list j c.requires.small (omega arith); room = omega (arith, inv.place, c.requires.room, ap length inv.bytes_are, length_put c.args.self.now.place (numbers (take j list)) c.args.self.now.buffer.now (omega (arith, c.requires.room, front_within list j))) }
+
+pub loop-value-preserved : goal.loop-value-preserved
+loop-value-preserved c =
+    let list = c.args.list.now in
+    let j = c.loop-value.value-index in
+    let within = front_within list j in
+    subst (λ (l : List ℕ). Added l c.args.self.now c.put_number.new.self) (sym (numbers_more list j (omega arith)))
+    (added_next (numbers (take j list)) (number_bytes (get_or list j 0)) _ _ _ (omega (arith, c.requires.room)) c.loop-value.invariant c.put_number.ensures)
+
+pub returns : goal.returns
+returns c =
+    subst (λ (l : List ℕ). Added (numbers l) c.args.self.now c.loop-value.self) (take_all c.loop-value.value-index c.args.list.now (omega arith)) c.loop-value.invariant
