@@ -11,7 +11,7 @@ use Rattle.fields.specs.PolynomialDegrees.{degree_unique}
 use Rattle.fields.specs.PolynomialFactors.{trial_division}
 use Rattle.fields.specs.BinaryModulus.{binary_laws}
 use Rattle.fields.proofs.BinaryAlphabet.{two_letters, all_letters}
-use Rattle.codes.specs.Cards.{Checked}
+use Rattle.codes.specs.Checked.{Checked}
 use Rattle.codes.proofs.CountedLists.{counting_fit, counting_nonzero, ones_fit}
 use Rattle.filling.specs.CodeExamples.{modulo_seven, small_code}
 use Rattle.examples.specs.HandTried.{modulo_eleven, seven_cells}

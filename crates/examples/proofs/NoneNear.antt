@@ -4,7 +4,7 @@ use Rattle.algebra.specs.Meaning.{Arithmetic, Meaning}
 use Rattle.algebra.specs.Realisation.{Minimal}
 use Rattle.pairs.specs.MinimalPair.{state_after}
 use Rattle.codes.specs.Code.{Code}
-use Rattle.codes.specs.Cards.{Checked}
+use Rattle.codes.specs.Checked.{Checked}
 use Rattle.codes.specs.Cells.{blanks, noted}
 use Rattle.codes.specs.Sums.{syndromes}
 use Rattle.codes.specs.declared.cell.Cell.{Cell}

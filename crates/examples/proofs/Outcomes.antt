@@ -2,7 +2,7 @@
 use Rattle.std.proofs.Common.{◌≡◌, ℕ, ◌<◌, ◌≤◌, true, List, length, Result, sym, refl, ◌∙◌}
 use Rattle.algebra.specs.Meaning.{Meaning}
 use Rattle.codes.specs.Code.{Code}
-use Rattle.codes.specs.Cards.{Checked}
+use Rattle.codes.specs.Checked.{Checked}
 use Rattle.codes.specs.Cells.{blanks}
 use Rattle.codes.specs.Verdicts.{Lettered}
 use Rattle.codes.specs.declared.cell.Cell.{Cell}

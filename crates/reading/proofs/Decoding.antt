@@ -3,7 +3,7 @@ use Rattle.std.proofs.Common.{◌≡◌, ℕ, suc, ◌-◌, ◌*◌, ◌<◌, �
 use Rattle.std.proofs.lemmas.List.FromFn.{get_or-map-range_with_len, length-map-range_with_len}
 use Rattle.algebra.specs.Meaning.{Arithmetic, Meaning}
 use Rattle.codes.specs.Code.{Code}
-use Rattle.codes.specs.Cards.{Checked}
+use Rattle.codes.specs.Checked.{Checked}
 use Rattle.codes.specs.Cells.{blank_cell, blanks, noted}
 use Rattle.filling.specs.Fillings.{annihilator_below, filled, filled_letter, Agrees, IfNoted}
 use Rattle.codes.specs.Sums.{syndromes}

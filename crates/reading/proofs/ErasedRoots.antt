@@ -18,7 +18,7 @@ use Rattle.algebra.proofs.Numbers.{annihilator_monic}
 use Rattle.algebra.proofs.Decoding.{error_locator, error_roots, few_roots}
 use Rattle.algebra.proofs.Realisations.{InField, in_field, act_applied, applied_take}
 use Rattle.codes.specs.Code.{Code}
-use Rattle.codes.specs.Cards.{Checked}
+use Rattle.codes.specs.Checked.{Checked}
 use Rattle.codes.specs.Cells.{blank_cell, blanks}
 use Rattle.filling.specs.Fillings.{number_at, blank_places, Agrees, IfNoted, filled}
 use Rattle.codes.specs.Sums.{syndromes}

@@ -6,3 +6,4 @@ pub mod ErasingSteps
 pub mod ModifiedSyndromes
 pub mod Decoding
 pub mod OneReading
+pub mod Zipped

@@ -11,7 +11,7 @@ use Rattle.algebra.proofs.Places.{member_if, member_not}
 use Rattle.algebra.proofs.Counts.{failing_only, failing_if, distinct_failing}
 use Rattle.algebra.proofs.Decoding.{only_near}
 use Rattle.codes.specs.Code.{Code}
-use Rattle.codes.specs.Cards.{Checked}
+use Rattle.codes.specs.Checked.{Checked}
 use Rattle.codes.specs.Cells.{blank_cell}
 use Rattle.codes.specs.Codeword.{Codeword}
 use Rattle.filling.specs.Fillings.{number_at, blank_places}
@@ -29,7 +29,7 @@ failures_same zero s t e = refl
 failures_same (suc n) s t e = ap₂ (λ b f. cond b f (suc f)) (e n (omega arith)) (failures_same n s t (λ j h. e j (omega arith)))
 
 -- blank, or the word's letter
-abbrev agree : Option ℕ → ℕ → Bool
+abbrev pub agree : Option ℕ → ℕ → Bool
 agree None x = true
 agree (Some letter) x = eqb letter x
 

@@ -4,7 +4,7 @@ use native.Mathlib.Decide.{ℕ_discrete, dec_lt}
 use Rattle.std.proofs.lemmas.Bool.{cases_eq, cases_lt}
 use Rattle.algebra.specs.Meaning.{Arithmetic, Meaning}
 use Rattle.codes.specs.Code.{Code}
-use Rattle.codes.specs.Cards.{Checked}
+use Rattle.codes.specs.Checked.{Checked}
 use Rattle.codes.specs.Cells.{blanks, noted}
 use Rattle.filling.specs.Fillings.{filled}
 use Rattle.pairs.specs.MinimalPair.{state_after}

@@ -6,7 +6,7 @@ use Rattle.algebra.specs.Meaning.{Arithmetic, Meaning}
 use Rattle.algebra.specs.Realisation.{Minimal}
 use Rattle.algebra.specs.Limits.{coefficients}
 use Rattle.codes.specs.Code.{Code}
-use Rattle.codes.specs.Cards.{Checked}
+use Rattle.codes.specs.Checked.{Checked}
 use Rattle.pairs.specs.MinimalPair.{Lengths, OfElements, Realised, state_after}
 use Rattle.codes.specs.declared.cell.Cell.{Cell}
 use Rattle.pairs.specs.declared.minimal_pair.RealiseRefusal.{RealiseRefusal}

@@ -1,8 +1,8 @@
 -- Reading: which codeword is near the cells, and what a read answers. Assumes nothing.
-use Rattle.std.specs.Prelude.{◌≡◌, ℕ, ◌+◌, ◌*◌, ◌<◌, ◌≤◌, cond, List, [], ◌∷◌, length, Some, None, Ok, Err, Option, Result, ◌==◌, ◌≢◌}
+use Rattle.std.specs.Prelude.{◌≡◌, ℕ, ◌+◌, ◌*◌, ◌<◌, ◌≤◌, Bool, true, false, cond, List, [], ◌∷◌, length, Some, None, Ok, Err, Option, Result, ◌==◌, ◌≢◌}
 use Rattle.algebra.specs.Meaning.{Arithmetic, Meaning}
 use Rattle.codes.specs.Code.{Code}
-use Rattle.codes.specs.Cards.{Checked}
+use Rattle.codes.specs.Checked.{Checked}
 use Rattle.codes.specs.Cells.{blanks}
 use Rattle.codes.specs.Codeword.{Codeword}
 use Rattle.codes.specs.Verdicts.{Lettered}
@@ -10,6 +10,11 @@ use Rattle.codes.specs.declared.cell.Cell.{Cell}
 use Rattle.reading.specs.declared.read_answer.Counts.{Counts}
 use Rattle.reading.specs.declared.read_answer.ReadRefusal.{ReadRefusal}
 use Rattle.reading.specs.declared.read_answer.ReadRefusal.TheVariants.{WrongLength, TooBlank, Lost}
+
+-- whether a noted letter is another than x
+abbrev pub differs : Option ℕ → ℕ → Bool
+differs None x = false
+differs (Some letter) x = cond (letter == x) false true
 
 abbrev pub one_if_wrong : Option ℕ → ℕ → ℕ
 one_if_wrong None x = 0

@@ -1,16 +1,17 @@
 // Reading: the only codeword near the cells.
 mod candidate;
 mod decode;
+mod found;
 mod locator;
 mod roots;
 
 ghost use Rattle.std.specs.Prelude.{◌≡◌, length};
-ghost use Rattle.codes.specs.Cards.{Checked, card_code};
+ghost use Rattle.codes.specs.Cards.{card_code};
 ghost use Rattle.codes.specs.Verdicts.{Lettered};
 ghost use Rattle.reading.specs.Reading.{Reading, OneReading};
 
 use crate::read_answer::{Counts, ReadRefusal};
-use crate::reading::decode::decode;
+use crate::reading::found::FoundCells;
 use algebra::LARGEST_CELLS;
 use codes::{Card, Cell, count_blanks};
 use fields::LetteredField;
@@ -22,28 +23,25 @@ pub fn read_cells<F: LetteredField>(
     cells: &[Cell],
     word: &mut [u32],
 ) -> Result<Counts, ReadRefusal>
-    requires checked { Checked (F.Field.meaning card.now.field) (card_code card.now) }
-    requires long { length cells.now ≡ card.now.cells }
-    requires lettered { Lettered card.now.letters cells.now }
+    requires long { length cells.now ≡ length (card_code card.now).locators }
+    requires lettered { Lettered (card_code card.now).letters cells.now }
     ensures { Reading (F.Field.meaning card.now.field).arithmetic (card_code card.now) cells.now word.old word.new result }
 {
-    let code = card.code();
     if word.len() != card.cells() {
         return Err(ReadRefusal::WrongLength);
     }
     let blank = count_blanks(cells);
-    if blank > code.rows {
+    if blank > card.code().rows {
         return Err(ReadRefusal::TooBlank);
     }
+    let found = FoundCells { card, cells, blank };
     let mut candidate = [0; LARGEST_CELLS];
-    let candidate = &mut candidate[0..word.len()];
-    match decode(card.field(), code, cells, blank, candidate) {
-        Some(wrong) => {
-            word.copy_from_slice(candidate);
-            Ok(Counts { wrong, blank })
-        }
-        None => Err(ReadRefusal::Lost),
-    }
+    let candidate = &mut candidate[..word.len()];
+    let Some(wrong) = found.decode(candidate) else {
+        return Err(ReadRefusal::Lost);
+    };
+    word.copy_from_slice(candidate);
+    Ok(Counts { wrong, blank })
 }
 
 // Exactly one outcome meets the contract of a read.

@@ -1,49 +1,39 @@
 // Decoding: the near codeword, by syndromes, the error locator and filling.
-ghost use Rattle.std.specs.Prelude.{◌≡◌, ◌≤◌, length};
-ghost use Rattle.codes.specs.Code.{code_of};
-ghost use Rattle.codes.specs.Cards.{Checked};
-ghost use Rattle.codes.specs.Cells.{blanks};
+ghost use Rattle.std.specs.Prelude.{◌≡◌, length};
+ghost use Rattle.codes.specs.Cards.{card_code};
 ghost use Rattle.codes.specs.Verdicts.{Lettered};
 ghost use Rattle.reading.specs.Decoding.{Decoded};
 
-use crate::reading::candidate::{accept, fill_candidate};
-use crate::reading::locator::error_locator;
+use crate::reading::candidate::fill_candidate;
+use crate::reading::found::FoundCells;
 use crate::reading::roots::erase_roots;
 use algebra::{COEFFICIENTS, LARGEST_CELLS, LARGEST_ROWS};
-use codes::{Cell, CodeRef, sums};
-use fields::Field;
+use arrayvec::ArrayVec;
+use codes::Cell;
+use fields::LetteredField;
 
-// Writes the near codeword into `word` and answers how many cells are wrong, or nothing where no codeword is near. `blank` is the
-// number of blank cells.
-pub fn decode<F: Field>(
-    field: &F,
-    code: CodeRef<'_>,
-    cells: &[Cell],
-    blank: usize,
-    word: &mut [u32],
-) -> Option<usize>
-    requires checked { Checked (F.Field.meaning field.now) (code_of code) }
-    requires long { length cells.now ≡ length code.locators.now }
-    requires lettered { Lettered code.letters cells.now }
-    requires counted { blank ≡ blanks cells.now }
-    requires few { blank ≤ code.rows }
-    requires room { length word.old ≡ length code.locators.now }
-    ensures { Decoded (F.Field.meaning field.now).arithmetic (code_of code.entry) cells.now word.new result }
-{
-    let mut row_sums = [0; LARGEST_ROWS];
-    let row_sums = &mut row_sums[0..code.rows];
-    // The lengths are the card's, so the sums are not refused.
-    sums(field, code, cells, row_sums).unwrap();
-    let mut locator = [0; COEFFICIENTS];
-    let degree = error_locator(field, code, cells, row_sums, &mut locator);
-    if 2 * degree > code.rows - blank {
-        return None;
+impl<'a, F: LetteredField> FoundCells<'a, F> {
+    // Writes the near codeword into `word` and answers how many cells are wrong, or nothing where no codeword is near.
+    pub fn decode(&self, word: &mut [u32]) -> Option<usize>
+        requires lettered { Lettered (card_code self.now.card.now).letters self.now.cells.now }
+        requires room { length word.old ≡ length (card_code self.now.card.now).locators }
+        ensures { Decoded (F.Field.meaning self.now.card.now.field).arithmetic (card_code self.now.card.now) self.now.cells.now word.new result }
+    {
+        let over = self.card.over();
+        let mut row_sums = [0; LARGEST_ROWS];
+        let row_sums = &mut row_sums[..over.code.rows];
+        // The lengths are the card's, so the sums are not refused.
+        over.sums(self.cells, row_sums).unwrap();
+        let mut locator = [0; COEFFICIENTS];
+        let degree = self.error_locator(row_sums, &mut locator);
+        if 2 * degree > over.code.rows - self.blank {
+            return None;
+        }
+        let mut left: ArrayVec<Cell, LARGEST_CELLS> = ArrayVec::try_from(self.cells).unwrap();
+        let left = left.as_mut_slice();
+        // From here on only the erased cells are gone through row by row: an erased letter's part leaves the sums, a filled one's comes in.
+        erase_roots(self.card, &locator[..degree + 1], left, row_sums);
+        fill_candidate(self.card, left, row_sums, word);
+        self.accept(word, row_sums)
     }
-    let mut left = [Cell::blank(); LARGEST_CELLS];
-    let left = &mut left[0..cells.len()];
-    left.copy_from_slice(cells);
-    // From here on only the erased cells are gone through row by row: an erased letter's part leaves the sums, a filled one's comes in.
-    erase_roots(field, code, &locator[0..degree + 1], left, row_sums);
-    fill_candidate(field, code, left, row_sums, word);
-    accept(code, cells, blank, word, row_sums)
 }

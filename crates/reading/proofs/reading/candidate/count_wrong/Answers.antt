@@ -1,32 +1,32 @@
-use Rattle.std.proofs.Common.{◌≡◌, ◌+◌, get_or, drop, ap, ◌∙◌, ap₂, arith}
-use Rattle.std.proofs.lemmas.List.{drop_more, drop_all}
-use Rattle.std.proofs.lemmas.Bool.{eq-eqb, ne_eqb, cond-true, cond-false}
-use Rattle.codes.specs.Cells.{blank_cell}
-use Rattle.reading.specs.Reading.{wrong, one_if_wrong}
+use Rattle.std.proofs.Common.{rules, tests, ◌≡◌, ℕ, ◌+◌, Bool, true, false, cond, eqb, count_by, List, [], ◌∷◌, length, Some, None, Option, refl, ap₂, ◌∙◌, arith}
+use Rattle.std.proofs.lemmas.Iterator.{YieldsList-from_slice, YieldsList-from_zip}
+use Rattle.std.proofs.lemmas.Iterator.Consumers.{YieldsList-from_filter, YieldsList-at, count_from_yields_List}
+use Rattle.std.proofs.lemmas.List.Sums.{sum_by-cons, length-filter}
+use Rattle.std.specs.List.{zip}
+use Rattle.codes.specs.declared.cell.Cell.{Cell}
+use Rattle.reading.specs.Reading.{differs, one_if_wrong, wrong}
 use Rattle.reading.proofs.reading.candidate.count_wrong.Goals as goal
-use Rattle.reading.proofs.reading.candidate.count_wrong.Goals.{in-Some+then-letter-word, in-Some+else-letter-word, in_default}
 
-pub loop-j-preserved : goal.loop-j-preserved
-loop-j-preserved c =
-    let j = c.loop-j.j in
+one : (letter : Option ℕ) (x : ℕ) → ◌≡◌ {A = ℕ} (cond (differs letter x) 1 0) (one_if_wrong letter x)
+one None x = refl
+one (Some letter) x = by (eqb letter x)
+  where
+    by : (b : Bool) → ◌≡◌ {A = ℕ} (cond (cond b false true) 1 0) (cond b 0 1)
+    by true = refl
+    by false = refl
+
+counted : (cells : List Cell) (word : List ℕ) → length word ≡ length cells → count_by (λ (p : Cell × ℕ). differs p.0.letter p.1) (zip cells word) ≡ wrong cells word
+counted [] word e = refl
+counted (cell ∷ cells) [] e = refl
+counted (cell ∷ cells) (x ∷ word) e =
+    sum_by-cons (λ (p : Cell × ℕ). cond (differs p.0.letter p.1) 1 0) (cell, x) (zip cells word) ∙ ap₂ ◌+◌ (one cell.letter x) (counted cells word (omega arith))
+
+pub returns-clause-count : goal.returns-clause-count
+returns-clause-count c =
     let cells = c.args.cells.now in
     let word = c.args.word.now in
-    let more : wrong (drop j cells) (drop j word) ≡ one_if_wrong (get_or cells j blank_cell).letter (get_or word j 0) + wrong (drop (j + 1) cells) (drop (j + 1) word) =
-    ap₂ wrong (drop_more cells j blank_cell (omega arith)) (drop_more word j 0 (omega (arith, c.requires))) in
-    elim c.match-cell.branch [
-      | in-Some+then-letter-word w ↦
-          (let one : one_if_wrong (get_or cells j blank_cell).letter (get_or word j 0) ≡ 1 = ap (λ o. one_if_wrong o (get_or word j 0)) w.in-Some.is ∙ cond-false _ 0 1 (ne_eqb _ _ w.if-letter-word.true) in
-          let count = w.count-is in omega arith)
-      | in-Some+else-letter-word w ↦
-          (let none : one_if_wrong (get_or cells j blank_cell).letter (get_or word j 0) ≡ 0 = ap (λ o. one_if_wrong o (get_or word j 0)) w.in-Some.is ∙ cond-true _ 0 1 (eq-eqb _ _ w.if-letter-word.false) in
-          let count = w.count-is in omega arith)
-      | in_default w ↦
-          (let none : one_if_wrong (get_or cells j blank_cell).letter (get_or word j 0) ≡ 0 = ap (λ o. one_if_wrong o (get_or word j 0)) w.in_default.is in
-          let count = w.count-is in omega arith)
-    ]
-
-pub returns : goal.returns
-returns c =
-    let j = c.loop-j.j in
-    let last : wrong (drop j c.args.cells.now) (drop j c.args.word.now) ≡ 0 = ap (λ cells. wrong cells (drop j c.args.word.now)) (drop_all j c.args.cells.now (omega arith)) in
-    record { count = omega arith; most = omega arith }
+    let test : Cell × ℕ → Bool = λ p. differs p.0.letter p.1 in
+    let pairs = YieldsList-from_zip (YieldsList-from_slice cells (cc)) (YieldsList-from_slice word (cc)) in
+    count_from_yields_List c.filter.result c.count.result c.count.ensures.ran
+    (YieldsList-from_filter _ test (YieldsList-at c.filter.ensures.source pairs) c.filter.ensures.closure (λ x b q k. search (rules, tests)))
+    ∙ length-filter test (zip cells word) ∙ counted cells word c.requires

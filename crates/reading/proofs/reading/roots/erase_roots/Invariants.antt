@@ -1,11 +1,11 @@
-use Rattle.codes.specs.Code.{code_of}
+use Rattle.codes.specs.Cards.{card_code}
 use Rattle.reading.specs.Erasing.{erased_cell}
 use Rattle.reading.proofs.ErasingSteps.{ChangedTo, SumsOf}
 use Rattle.reading.proofs.reading.roots.erase_roots.Given as goal
 
--- the cells below j are erased where they are to be, and the sums are those of the cells
+-- the cells below j are erased where they have to be, and the sums are those of the cells
 abbrev pub invariant-loop-j : goal.invariant-loop-j
 invariant-loop-j g l =
-    let A = (g.F.Field.meaning l.field).arithmetic in
-    ChangedTo (erased_cell A l.polynomial (code_of l.code).locators l.initial.cells) l.initial.cells l.cells l.j
-    × SumsOf A (code_of l.code) l.cells l.sums
+    let A = (g.F.Field.meaning l.card.field).arithmetic in
+    ChangedTo (erased_cell A l.polynomial (card_code l.card).locators l.initial.cells) l.initial.cells l.cells l.j
+    × SumsOf A (card_code l.card) l.cells l.sums
