@@ -1,32 +1,52 @@
 -- The sheet's answers, from the tests that the tag makes. Assumes nothing.
-use Rattle.std.proofs.Common.{◌≡◌, ℕ, zero, suc, ◌-◌, ◌<◌, ◌≤◌, true, false, List, [], ◌∷◌, length, get_or, take, set, is_some, Some, None, Ok, Err, Option, Result, unwrap_or, sym, refl, ap, ◌∙◌, ap₂, arith}
+use Rattle.std.proofs.Common.{◌≡◌, ℕ, zero, suc, ◌-◌, ◌<◌, Bool, true, false, cond, leb, List, [], ◌∷◌, length, get_or, take, set, is_some, Some, None, Ok, Err, Option, Result, unwrap_or, sym, refl, ap, ◌∙◌, ap₂, arith}
 use lib.Seq.{take-set-lt}
-use Rattle.std.proofs.lemmas.Bool.{and_from, and_left, and_right, cond-true, cond-false, eq-eqb, ne_eqb, le-leb, lt-leb, lt-ltb}
+use Rattle.std.proofs.lemmas.Bool.{and_from, and_parts, and_left, and_right, cond-true, cond-false, eq-eqb, ne_eqb, le-leb, lt-leb, lt-ltb, leb-true, true≢false}
+use Rattle.std.proofs.lemmas.Option.{same_Some}
 use Rattle.codes.specs.Code.{Code}
 use Rattle.codes.specs.Cells.{blank_cell}
 use Rattle.codes.specs.declared.cell.Cell.{Cell}
 use Rattle.lines.specs.Lines.{marked_cell, LineRead, line_number}
-use Rattle.tags.specs.Sheet.{width, is_cell, all_marked, marked_cells, refusal_of_note, refusal_of_wipe, refusal_of_line, after_line, unless_refused, refused}
+use Rattle.tags.specs.Sheet.{width, is_cell, place_in, all_marked, marked_cells, refusal_of_note, refusal_of_wipe, refusal_of_line, after_line, unless_refused, refused}
 use Rattle.lines.specs.declared.line.LineRefusal.{LineRefusal}
 use Rattle.lines.specs.declared.line.LineRefusal.TheVariants.{WrongLength, UnmarkedAlphabet, BadMark}
 
+-- what a place that is found tells of the test that finds it, and one that is not
+place_found : (b : Bool) (x place : ℕ) → cond b (Some x) None ≡ Some place → (b ≡ true) × (place ≡ x)
+place_found true x place e = (refl, sym (same_Some x place e))
+place_found false x place e = absurd (true≢false (sym (ap is_some e)))
+
+none_found : (b : Bool) (x : ℕ) → cond b (Some x) None ≡ None → b ≡ false
+none_found true x e = absurd (true≢false (ap is_some e))
+none_found false x e = refl
+
 -- the tests of a cell's number and of a letter, `d` being the code as the card lends it
 module _ (code : Code) (cell : ℕ) where
-  a_cell : 1 ≤ cell → cell ≤ width code → is_cell code cell ≡ true
-  a_cell low high = and_from _ _ (le-leb 1 cell low) (le-leb cell (width code) high)
+  pub a_cell : (place : ℕ) → place_in code cell ≡ Some place → (is_cell code cell ≡ true) × (place ≡ cell - 1)
+  a_cell place is = place_found (is_cell code cell) (cell - 1) place is
 
-  pub note_accepted : (d : Code) (letter : ℕ) → d ≡ code → 1 ≤ cell → cell ≤ width code → letter < d.letters → None ≡ refusal_of_note code cell letter
-  note_accepted d letter is low high small =
-      let below : letter < code.letters = omega (arith, ap (λ (e : Code). e.letters) is) in
-      sym (cond-true _ _ _ (a_cell low high) ∙ cond-true _ _ _ (lt-ltb letter code.letters below))
+  pub a_place : is_cell code cell ≡ true → cell - 1 < width code
+  a_place is =
+      let parts = and_parts (leb 1 cell) (leb cell (width code)) is in
+      let low = leb-true 1 cell parts.0 in
+      let high = leb-true cell (width code) parts.1 in
+      omega arith
 
-  pub wipe_accepted : 1 ≤ cell → cell ≤ width code → None ≡ refusal_of_wipe code cell
-  wipe_accepted low high = sym (cond-true _ _ _ (a_cell low high))
+  pub no_cell : (A : Type 0) (inner other : Option A) → place_in code cell ≡ None → cond (is_cell code cell) inner other ≡ other
+  no_cell A inner other none = cond-false _ _ _ (none_found (is_cell code cell) (cell - 1) none)
+
+  pub note_accepted : (d : Code) (letter : ℕ) → d ≡ code → is_cell code cell ≡ true → letter < d.letters → None ≡ refusal_of_note code cell letter
+  note_accepted d letter same is small =
+      let below : letter < code.letters = omega (arith, ap (λ (e : Code). e.letters) same) in
+      sym (cond-true _ _ _ is ∙ cond-true _ _ _ (lt-ltb letter code.letters below))
+
+  pub wipe_accepted : is_cell code cell ≡ true → None ≡ refusal_of_wipe code cell
+  wipe_accepted is = sym (cond-true _ _ _ is)
 
 -- an accepted note or wipe changes the same cell of the first n
-pub changed_cell : (refusal : Option ℕ) (n cell : ℕ) (cells : List Cell) (new : Cell) → None ≡ refusal → 1 ≤ cell → cell ≤ n → take n (set cells (cell - 1) new) ≡ unless_refused refusal (set (take n cells) (cell - 1) new) (take n cells)
-changed_cell refusal n cell cells new accepted low high =
-    take-set-lt n cells (cell - 1) new (omega arith) ∙ ap (λ (o : Option ℕ). unless_refused o (set (take n cells) (cell - 1) new) (take n cells)) accepted
+pub changed_cell : (refusal : Option ℕ) (n cell : ℕ) (cells : List Cell) (new : Cell) → None ≡ refusal → cell - 1 < n → take n (set cells (cell - 1) new) ≡ unless_refused refusal (set (take n cells) (cell - 1) new) (take n cells)
+changed_cell refusal n cell cells new accepted within =
+    take-set-lt n cells (cell - 1) new within ∙ ap (λ (o : Option ℕ). unless_refused o (set (take n cells) (cell - 1) new) (take n cells)) accepted
 
 -- what the marks stand for, as the list of cells
 marked_list : (letters : ℕ) (marks : List ℕ) (cells : List Cell) → length cells ≡ length marks → ((j : ℕ) → j < length marks → marked_cell letters (get_or marks j 0) ≡ Some (get_or cells j blank_cell)) → (all_marked letters marks ≡ true) × (cells ≡ marked_cells letters marks)

@@ -1,8 +1,8 @@
 -- A word that is near the sheet stays near under the calls that keep it. Assumes nothing.
-use Rattle.std.proofs.Common.{◌≡◌, ℕ, zero, suc, ◌+◌, ◌-◌, ◌*◌, ◌<◌, ◌≤◌, Bool, true, false, cond, eqb, leb, List, [], ◌∷◌, length, get_or, set, Some, None, Option, sym, refl, ◌∙◌, arith}
+use Rattle.std.proofs.Common.{◌≡◌, ℕ, zero, suc, ◌+◌, ◌-◌, ◌*◌, ◌<◌, ◌≤◌, Bool, true, false, cond, eqb, List, [], ◌∷◌, length, get_or, set, Some, None, Option, sym, refl, ◌∙◌, arith}
 use Rattle.std.specs.Str.{chars}
 use Rattle.std.proofs.lemmas.List.{length-set, length-map}
-use Rattle.std.proofs.lemmas.Bool.{and_parts, cond-true, cond-false, eq-eqb, ne_eqb, eqb-true, leb-true}
+use Rattle.std.proofs.lemmas.Bool.{cond-true, cond-false, eq-eqb, ne_eqb, eqb-true}
 use Rattle.algebra.specs.Meaning.{Arithmetic}
 use Rattle.codes.specs.Code.{Code}
 use Rattle.codes.specs.Cells.{blank_cell, noted_cell, blanks, one_if_blank}
@@ -10,6 +10,7 @@ use Rattle.codes.specs.declared.cell.Cell.{Cell}
 use Rattle.reading.specs.Reading.{wrong, one_if_wrong, Near}
 use Rattle.tags.specs.Sheet.{width, is_cell, refusal_of_note, refusal_of_wipe, refusal_of_line, unless_refused}
 use Rattle.tags.specs.Calls.{after_call}
+use Rattle.tags.proofs.Sheets.{a_place}
 use Rattle.tags.specs.Runs.{BlankOrWrong, Keeps}
 use Rattle.tags.specs.declared.call.Call.{Call}
 use Rattle.tags.specs.declared.call.Call.TheVariants.{Note, Wipe, Line, Read}
@@ -41,13 +42,6 @@ blanked (Some letter) x other = let one : one_if_wrong (Some letter) x ≡ 1 = c
 at_cell : (b : Bool) (inner : Option ℕ) (number : ℕ) → cond b inner (Some number) ≡ None → b ≡ true
 at_cell true inner number e = refl
 at_cell false inner number e = let zero_one : ◌≡◌ {A = ℕ} 0 1 = cc in absurd (omega arith)
-
-a_place : (code : Code) (cell : ℕ) → is_cell code cell ≡ true → cell - 1 < width code
-a_place code cell is =
-    let parts = and_parts (leb 1 cell) (leb cell (width code)) is in
-    let low = leb-true 1 cell parts.0 in
-    let high = leb-true cell (width code) parts.1 in
-    omega arith
 
 by_refusal : (P : List Cell → Type 0) (refusal : Option ℕ) (changed sheet : List Cell) → (refusal ≡ None → P changed) → P sheet → P (unless_refused refusal changed sheet)
 by_refusal P None changed sheet accepted as_it_was = accepted refl

@@ -19,6 +19,10 @@ blank_sheet code = replicate (width code) blank_cell
 abbrev pub is_cell : Code → ℕ → Bool
 is_cell code cell = nat_le 1 cell && nat_le cell (width code)
 
+-- the place of a cell among them, from 0 on
+abbrev pub place_in : Code → ℕ → Option ℕ
+place_in code cell = cond (is_cell code cell) (Some (cell - 1)) None
+
 -- is each mark a blank or a letter below the alphabet size?
 abbrev pub all_marked : ℕ → List ℕ → Bool
 all_marked letters [] = true

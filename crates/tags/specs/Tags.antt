@@ -1,11 +1,13 @@
 -- What a tag holds, and what its calls answer. Assumes nothing.
 use Rattle.std.specs.Prelude.{◌≡◌, ℕ, List, length, take, Ok, Err, Result, ◌≢◌}
 use Rattle.algebra.specs.Meaning.{Arithmetic}
+use Rattle.fields.specs.declared.field.Field.{Ghosts}
 use Rattle.codes.specs.Code.{Code}
 use Rattle.codes.specs.Cards.{card_code}
 use Rattle.codes.specs.Sums.{syndromes, sums_number}
 use Rattle.codes.specs.declared.cell.Cell.{Cell}
 use Rattle.codes.specs.declared.syndromes.SumsRefusal.{SumsRefusal}
+use Rattle.tags.specs.Sheet.{width}
 use Rattle.tags.specs.declared.tag.Tag.{Tag}
 use Rattle.tags.specs.declared.note_refusal.NoteRefusal.{NoteRefusal}
 use Rattle.tags.specs.declared.note_refusal.NoteRefusal.TheVariants.{NoSuchCell, NoLetter}
@@ -13,12 +15,12 @@ use Rattle.tags.specs.declared.wipe_refusal.WipeRefusal as wipe
 use Rattle.tags.specs.declared.wipe_refusal.WipeRefusal.{WipeRefusal}
 
 -- the code of a tag's card
-abbrev pub tag_code : {F : Type 0} → Tag F → Code
+abbrev pub tag_code : {F : Type 0} {g : Ghosts F} → Tag F g → Code
 tag_code tag = card_code tag.card.now
 
 -- a tag's n cells
-abbrev pub tag_cells : {F : Type 0} → Tag F → List Cell
-tag_cells tag = take tag.card.now.cells tag.table.cells
+abbrev pub tag_cells : {F : Type 0} {g : Ghosts F} → Tag F g → List Cell
+tag_cells tag = take (width (tag_code tag)) tag.table.cells
 
 abbrev pub note_number : NoteRefusal → ℕ
 note_number NoSuchCell = 21

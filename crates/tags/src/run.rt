@@ -1,6 +1,6 @@
 // The play of a tag: a worker picks the calls, and the journal keeps each with its answer.
 ghost use Rattle.std.specs.Prelude.{◌≡◌, take};
-ghost use Rattle.codes.specs.Cards.{Checked, card_code};
+ghost use Rattle.codes.specs.Cards.{card_code};
 ghost use Rattle.tags.specs.Tags.{tag_code, tag_cells};
 ghost use Rattle.tags.specs.Calls.{after_call, call_of};
 ghost use Rattle.tags.specs.Runs.{Answered, ReadFresh, Play, RunLaw};
@@ -13,6 +13,7 @@ use codes::Card;
 use fields::LetteredField;
 use reading::{Counts, ReadRefusal};
 
+// A play has both, whichever way it ends.
 #[derive(Clone, Copy, PartialEq, Eq, Debug)]
 pub struct Played {
     // How many events were played: they stand in the first places of the journal.
@@ -27,13 +28,11 @@ pub fn work_tag<'a, F: LetteredField, W: Worker<'a>>(
     worker: &mut W,
     journal: &mut [Event<'a>],
 ) -> Played
-    requires { Checked (F.Field.meaning card.now.field) (card_code card.now) }
     ensures play { Play W.Worker.picks worker.old worker.new journal.old journal.new result }
     ensures law { RunLaw (F.Field.meaning card.now.field).arithmetic (card_code card.now) (take result.events journal.new) }
 {
     let mut tag = Tag::open(card);
-    let mut events = 0;
-    while events < journal.len() {
+    for events in 0..journal.len() {
         let Some(call) = worker.pick(&journal[0..events]) else {
             return Played {
                 events,
@@ -41,16 +40,14 @@ pub fn work_tag<'a, F: LetteredField, W: Worker<'a>>(
             };
         };
         journal[events] = make_call(&mut tag, call);
-        events += 1;
     }
     Played {
-        events,
+        events: journal.len(),
         stopped: false,
     }
 }
 
 fn make_call<'a, F: LetteredField>(tag: &mut Tag<'_, F>, call: Call<'a>) -> Event<'a>
-    requires { Checked (F.Field.meaning tag.old.card.now.field) (tag_code tag.old) }
     ensures same { call_of result ≡ call.entry }
     ensures answer { Answered (F.Field.meaning tag.old.card.now.field).arithmetic (tag_code tag.old) (tag_cells tag.old) result }
     ensures cells { tag_cells tag.new ≡ after_call (tag_code tag.old) (tag_cells tag.old) call.entry }
@@ -86,7 +83,6 @@ fn read_fresh<F: LetteredField>(
     tag: &Tag<'_, F>,
     length: usize,
 ) -> (Result<Counts, ReadRefusal>, [u32; BUFFER])
-    requires { Checked (F.Field.meaning tag.now.card.now.field) (tag_code tag.now) }
     ensures { ReadFresh (F.Field.meaning tag.now.card.now.field).arithmetic (tag_code tag.now) (tag_cells tag.now) length result.0 result.1 }
 {
     let mut buffer = [UNTOUCHED; BUFFER];

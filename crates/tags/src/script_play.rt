@@ -1,6 +1,6 @@
 // The play of a script.
 ghost use Rattle.std.specs.Prelude.{◌≡◌, min, map, length, take, drop, nat_lt};
-ghost use Rattle.codes.specs.Cards.{Checked, card_code};
+ghost use Rattle.codes.specs.Cards.{card_code};
 ghost use Rattle.tags.specs.Calls.{call_of};
 ghost use Rattle.tags.specs.Runs.{RunLaw};
 ghost use Rattle.tags.specs.Scripts.{ScriptPicks};
@@ -28,7 +28,6 @@ pub fn play_script<'a, F: LetteredField>(
     calls: &[Call<'a>],
     journal: &mut [Event<'a>],
 ) -> Played
-    requires { Checked (F.Field.meaning card.now.field) (card_code card.now) }
     ensures events { result.events ≡ min (length calls.now) (length journal.old) }
     ensures stopped { result.stopped ≡ nat_lt (length calls.now) (length journal.old) }
     ensures calls { map call_of (take result.events journal.new) ≡ take result.events calls.now }

@@ -8,13 +8,14 @@ ghost use Rattle.codes.specs.Verdicts.{Lettered};
 
 use crate::tag::table::Table;
 use codes::Card;
+use fields::LetteredField;
 
 // The tag's cells stand in the first places of the table, one for each locator of the card, and the other places are never
 // read. Every noted letter is one of the alphabet.
 #[derive(Drop)]
-pub struct Tag<'a, F> {
+pub struct Tag<'a, F: LetteredField> {
     card: &'a Card<F>,
     table: Table,
     ghost long: { length table.cells ≡ largest_cells },
-    ghost lettered: { ∥ Lettered card.now.letters (take card.now.cells table.cells) ∥₁ },
+    ghost lettered: { ∥ Lettered card.now.letters (take (length card.now.locators.items) table.cells) ∥₁ },
 }

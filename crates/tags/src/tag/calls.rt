@@ -1,11 +1,10 @@
 // The calls of a tag. Cells are numbered from 1.
-ghost use Rattle.std.specs.Prelude.{◌≡◌, ◌≤◌};
+ghost use Rattle.std.specs.Prelude.{◌≡◌};
 ghost use Rattle.std.specs.Str.{chars};
-ghost use Rattle.codes.specs.Cards.{Checked, card_code};
+ghost use Rattle.codes.specs.Cards.{card_code};
 ghost use Rattle.lines.specs.Lines.{LineRead, line_number};
 ghost use Rattle.reading.specs.Reading.{Reading};
-ghost use Rattle.algebra.specs.Limits.{largest_cells};
-ghost use Rattle.tags.specs.Sheet.{width, blank_sheet, refusal_of_note, refusal_of_wipe, refusal_of_line, after_note, after_wipe, after_line, refused};
+ghost use Rattle.tags.specs.Sheet.{blank_sheet, place_in, refusal_of_note, refusal_of_wipe, refusal_of_line, after_note, after_wipe, after_line, refused};
 ghost use Rattle.tags.specs.Tags.{tag_code, tag_cells, note_number, wipe_number, TagSummed};
 
 use crate::note_refusal::NoteRefusal;
@@ -13,12 +12,12 @@ use crate::tag::Tag;
 use crate::tag::table::Table;
 use crate::wipe_refusal::WipeRefusal;
 use algebra::LARGEST_CELLS;
-use codes::{Card, Cell, SumsRefusal, sums};
+use codes::{Card, Cell, SumsRefusal};
 use fields::LetteredField;
 use lines::{LineRefusal, read_line};
 use reading::{Counts, ReadRefusal, read_cells};
 
-impl<'a, F> Tag<'a, F> {
+impl<'a, F: LetteredField> Tag<'a, F> {
     // A tag of the card, every cell blank.
     pub fn open(card: &'a Card<F>) -> Tag<'a, F>
         ensures same { result.card.now ≡ card.now }
@@ -27,7 +26,7 @@ impl<'a, F> Tag<'a, F> {
         Tag {
             card,
             table: Table {
-                cells: [Cell { letter: None }; LARGEST_CELLS],
+                cells: [Cell::blank(); LARGEST_CELLS],
             },
         }
     }
@@ -38,13 +37,11 @@ impl<'a, F> Tag<'a, F> {
         ensures cells { tag_cells self.new ≡ after_note (tag_code self.old) cell letter (tag_cells self.old) }
         ensures card { self.new.card.now ≡ self.old.card.now }
     {
-        if cell < 1 || cell > self.width() {
-            return Err(NoteRefusal::NoSuchCell);
-        }
+        let place = self.place_of(cell).ok_or(NoteRefusal::NoSuchCell)?;
         if letter >= self.card.code().letters {
             return Err(NoteRefusal::NoLetter);
         }
-        self.table.put(cell - 1, Cell::noted(letter));
+        self.table.put(place, Cell::noted(letter));
         Ok(())
     }
 
@@ -54,10 +51,8 @@ impl<'a, F> Tag<'a, F> {
         ensures cells { tag_cells self.new ≡ after_wipe (tag_code self.old) cell (tag_cells self.old) }
         ensures card { self.new.card.now ≡ self.old.card.now }
     {
-        if cell < 1 || cell > self.width() {
-            return Err(WipeRefusal::NoSuchCell);
-        }
-        self.table.put(cell - 1, Cell::blank());
+        let place = self.place_of(cell).ok_or(WipeRefusal::NoSuchCell)?;
+        self.table.put(place, Cell::blank());
         Ok(())
     }
 
@@ -69,41 +64,36 @@ impl<'a, F> Tag<'a, F> {
         ensures card { self.new.card.now ≡ self.old.card.now }
     {
         let letters = self.card.code().letters;
-        let width = self.width();
+        let width = self.card.cells();
         read_line(line, letters, &mut self.table.cells[0..width])
+    }
+
+    // Writes into `buffer` the sum of each row over the noted cells.
+    pub fn sums(&self, buffer: &mut [u32]) -> Result<(), SumsRefusal>
+        ensures { TagSummed (F.Field.meaning self.now.card.now.field).arithmetic (tag_code self.now) (tag_cells self.now) buffer.old buffer.new result }
+    {
+        self.card.over().sums(self.cells(), buffer)
+    }
+
+    // Writes the near codeword into `word`, and answers how many cells are wrong and how many are blank.
+    pub fn read(&self, word: &mut [u32]) -> Result<Counts, ReadRefusal>
+        ensures { Reading (F.Field.meaning self.now.card.now.field).arithmetic (tag_code self.now) (tag_cells self.now) word.old word.new result }
+    {
+        read_cells(self.card, self.cells(), word)
     }
 
     // The tag's own cells.
     fn cells(&self) -> &[Cell]
         ensures { result.now ≡ tag_cells self.now }
     {
-        let width = self.width();
-        &self.table.cells[0..width]
+        &self.table.cells[0..self.card.cells()]
     }
 
-    // How many cells the tag has.
-    fn width(&self) -> usize
-        ensures is { result ≡ self.now.card.now.cells }
-        ensures listed { result ≡ width (tag_code self.now) }
-        ensures fits { result ≤ largest_cells }
+    // The place of a cell in the table, if the tag has the cell.
+    fn place_of(&self, cell: usize) -> Option<usize>
+        ensures { result ≡ place_in (tag_code self.now) cell }
     {
-        self.card.code().locators.len()
-    }
-}
-
-impl<'a, F: LetteredField> Tag<'a, F> {
-    // Writes into `buffer` the sum of each row over the noted cells.
-    pub fn sums(&self, buffer: &mut [u32]) -> Result<(), SumsRefusal>
-        ensures { TagSummed (F.Field.meaning self.now.card.now.field).arithmetic (tag_code self.now) (tag_cells self.now) buffer.old buffer.new result }
-    {
-        sums(self.card.field(), self.card.code(), self.cells(), buffer)
-    }
-
-    // Writes the near codeword into `word`, and answers how many cells are wrong and how many are blank.
-    pub fn read(&self, word: &mut [u32]) -> Result<Counts, ReadRefusal>
-        requires { Checked (F.Field.meaning self.now.card.now.field) (tag_code self.now) }
-        ensures { Reading (F.Field.meaning self.now.card.now.field).arithmetic (tag_code self.now) (tag_cells self.now) word.old word.new result }
-    {
-        read_cells(self.card, self.cells(), word)
+        cell.checked_sub(1)
+            .filter(|place| *place < self.card.cells())
     }
 }

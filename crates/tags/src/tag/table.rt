@@ -5,6 +5,7 @@ ghost use Rattle.algebra.specs.Limits.{largest_cells};
 use algebra::LARGEST_CELLS;
 use codes::Cell;
 
+// An array, not a vector: how many of its cells are the tag's own is the card's to say.
 #[derive(Drop)]
 pub(crate) struct Table {
     pub(crate) cells: [Cell; LARGEST_CELLS],
@@ -17,6 +18,6 @@ impl Table {
         requires within { place < largest_cells }
         ensures { self.new.cells ≡ slice_set self.old.cells place cell }
     {
-        self.cells[place].letter = cell.letter;
+        self.cells[place] = cell;
     }
 }

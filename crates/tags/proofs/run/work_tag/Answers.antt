@@ -1,4 +1,4 @@
-use Rattle.std.proofs.Common.{◌≡◌, ◌+◌, ◌-◌, ◌<◌, List, [], ◌∷◌, ◌++◌, map, length, take, drop, set, Some, None, sym, ap, ◌∙◌, subst, ap₂, subst₂, arith, length-set}
+use Rattle.std.proofs.Common.{◌≡◌, ◌+◌, ◌-◌, ◌<◌, List, [], ◌∷◌, ◌++◌, map, length, take, drop, set, Some, None, sym, ap, ◌∙◌, subst, ap₂, subst₂, le_refl, arith, length-set}
 use Rattle.std.proofs.lemmas.List.{take_more_set, drop-drop, drop-set-lt, length-take-le}
 use Rattle.codes.specs.Cards.{card_code}
 use Rattle.codes.specs.declared.card.Card.{Card}
@@ -9,7 +9,6 @@ use Rattle.tags.specs.Runs.{Answered, PicksAll}
 use Rattle.tags.specs.declared.call.Call.{Call}
 use Rattle.tags.specs.declared.event.Event.{Event}
 use Rattle.tags.proofs.Journals.{AllAnswered, answered_more, picks_more, sheet_push, run_law}
-use Rattle.tags.proofs.Tags.{width_fits}
 use Rattle.tags.proofs.run.work_tag.Goals as goal
 
 pub returns-in_default : goal.returns-in_default
@@ -23,7 +22,7 @@ returns-in_default g c =
         ended = (c.loop-events.worker, inv.3, subst (λ (js : List Event). g.W.Worker.picks c.loop-events.worker js None c.pick.new.self) seen c.in_default.ensures, omega (arith, length-take-le c.loop-events.events c.loop-events.journal inv.5));
         others = inv.6;
       };
-      law = run_law (g.F.Field.meaning card.field).arithmetic (card_code card) (width_fits card) _ inv.2;
+      law = run_law (g.F.Field.meaning card.field).arithmetic (card_code card) card.checked.shape.most_cells _ inv.2;
     }
 
 pub loop-events-preserved : goal.loop-events-preserved
@@ -43,13 +42,13 @@ loop-events-preserved g c =
     let seen : take (events - 0) journal ≡ so_far = ap (λ n. take n journal) (omega arith) in (
       made.card ∙ inv.0,
       made.cells
-          ∙ ap₂ (λ (d : Card g.row.F.Denot) (s : List Cell). after_call (card_code d) s c.in-Some.call) inv.0 inv.1
+          ∙ ap₂ (λ (d : Card g.row.F.Denot _) (s : List Cell). after_call (card_code d) s c.in-Some.call) inv.0 inv.1
           ∙ ap (after_call code _) (sym made.same)
           ∙ sym (sheet_push code (blank_sheet code) so_far e)
           ∙ ap (λ (js : List Event). sheet_of code (map call_of js)) (sym more),
       subst (AllAnswered A code) (sym more)
           (answered_more A code so_far e inv.2
-          (subst₂ (λ (d : Card g.row.F.Denot) (s : List Cell). Answered (g.F.Field.meaning d.field).arithmetic (card_code d) s e) inv.0 inv.1 made.answer)),
+          (subst₂ (λ (d : Card g.row.F.Denot _) (s : List Cell). Answered (g.F.Field.meaning d.field).arithmetic (card_code d) s e) inv.0 inv.1 made.answer)),
       subst (λ (js : List Event). PicksAll picks [] c.args.worker.now js c.pick.new.self) (sym more)
           (picks_more picks [] c.args.worker.now so_far c.loop-events.worker c.pick.new.self e inv.3
           (subst₂ (λ (js : List Event) (call : Call). picks c.loop-events.worker js (Some call) c.pick.new.self) seen (sym made.same) c.in-Some.ensures)),
@@ -62,11 +61,18 @@ pub returns : goal.returns
 returns g c =
     let inv = c.loop-events.invariant in
     let card = c.args.card.now in
+    let code = card_code card in
+    let A = (g.F.Field.meaning card.field).arithmetic in
+    let journal = c.loop-events.journal in
+    let full : c.loop-events.events ≡ length journal = omega (arith, inv.4, inv.5, c.loop-events-test.false) in
     record {
       play = record {
-        within = inv.5;
-        ended = (inv.3, length-take-le c.loop-events.events c.loop-events.journal inv.5 ∙ omega arith);
-        others = inv.6;
+        within = le_refl (length journal);
+        ended = (
+          subst (λ n. PicksAll g.W.Worker.picks [] c.args.worker.now (take n journal) c.loop-events.worker) full inv.3,
+          length-take-le (length journal) journal (le_refl (length journal)) ∙ inv.4,
+        );
+        others = subst (λ n. drop n journal ≡ drop n c.args.journal.now) full inv.6;
       };
-      law = run_law (g.F.Field.meaning card.field).arithmetic (card_code card) (width_fits card) _ inv.2;
+      law = run_law A code card.checked.shape.most_cells _ (subst (λ n. AllAnswered A code (take n journal)) full inv.2);
     }

@@ -1,4 +1,4 @@
-use Rattle.std.proofs.Common.{◌≡◌, ◌-◌, ◌≤◌, [], map, length, take, drop}
+use Rattle.std.proofs.Common.{◌≡◌, ◌≤◌, [], map, length, take, drop}
 use Rattle.codes.specs.Cards.{card_code}
 use Rattle.tags.specs.Tags.{tag_cells}
 use Rattle.tags.specs.Calls.{call_of, sheet_of}
@@ -17,6 +17,3 @@ invariant-loop-events g l =
     × (length l.journal ≡ length l.initial.journal)
     × (l.events ≤ length l.journal)
     × (drop l.events l.journal ≡ drop l.events l.initial.journal)
-
-abbrev pub decreases-loop-events : goal.decreases-loop-events
-decreases-loop-events g l = length l.initial.journal - l.events

@@ -9,36 +9,39 @@ use Rattle.codes.specs.declared.cell.Cell.{Cell}
 use Rattle.lines.specs.Lines.{LineRead}
 use Rattle.tags.proofs.Lettering.{lettered_line}
 use Rattle.tags.proofs.Sheets.{line_answered}
-use Rattle.tags.proofs.Tags.{width_is, own_line}
+use Rattle.tags.specs.Sheet.{width}
+use Rattle.tags.proofs.Tags.{own_line}
 use Rattle.tags.proofs.tag.Tag.line.Goals as goal
 
 pub invariant_of-self : goal.invariant_of-self
 invariant_of-self g c =
     let tag = c.args.self.now in
     let card = tag.card.now in
+    let n = width (card_code card) in
     let cells = tag.table.cells in
     let after = c.read_line.new.cells in
     let marks = chars c.args.line.now in
-    let own = own_line card cells after marks c.read_line.result c.width-width.result _ c.width-width.ensures.is (ap (λ (d : Code). d.letters) c.code-letters.ensures) tag.long c.read_line.auto.cells c.read_line.ensures in
+    let own = own_line n card.letters cells after marks c.read_line.result c.cells-width.result _ card.checked.shape.most_cells c.cells-width.ensures (ap (λ (d : Code). d.letters) c.code-letters.ensures) tag.long c.read_line.auto.cells c.read_line.ensures in
     record {
-      long = same_len_mid 0 (c.width-width.result - 0) cells after c.read_line.auto.cells ∙ tag.long;
+      long = same_len_mid 0 (c.cells-width.result - 0) cells after c.read_line.auto.cells ∙ tag.long;
       lettered =
-          subst (λ (own-cells : List Cell). ∥ Lettered card.letters own-cells ∥₁) (sym (take_at after _ card.cells own.after_long))
-          (lettered_line card.letters marks (take card.cells cells) after c.read_line.result own.read tag.lettered);
+          subst (λ (own-cells : List Cell). ∥ Lettered card.letters own-cells ∥₁) (sym (take_at after _ n own.after_long))
+          (lettered_line card.letters marks (take n cells) after c.read_line.result own.read tag.lettered);
     }
 
 pub returns : goal.returns
 returns g c =
     let tag = c.args.self.now in
     let card = tag.card.now in
+    let n = width (card_code card) in
     let cells = tag.table.cells in
     let after = c.read_line.new.cells in
     let marks = chars c.args.line.now in
-    let own = own_line card cells after marks c.read_line.result c.width-width.result _ c.width-width.ensures.is (ap (λ (d : Code). d.letters) c.code-letters.ensures) tag.long c.read_line.auto.cells c.read_line.ensures in
-    let answered = line_answered (card_code card) marks (take card.cells cells) after (own.before_long ∙ sym (width_is card)) c.read_line.result own.read in
-    let front = take_at after _ card.cells own.after_long in
+    let own = own_line n card.letters cells after marks c.read_line.result c.cells-width.result _ card.checked.shape.most_cells c.cells-width.ensures (ap (λ (d : Code). d.letters) c.code-letters.ensures) tag.long c.read_line.auto.cells c.read_line.ensures in
+    let answered = line_answered (card_code card) marks (take n cells) after own.before_long c.read_line.result own.read in
+    let front = take_at after _ n own.after_long in
     record {
-      marks = subst (λ (own-cells : List Cell). LineRead card.letters marks (take card.cells cells) own-cells c.read_line.result) (sym front) own.read;
+      marks = subst (λ (own-cells : List Cell). LineRead card.letters marks (take n cells) own-cells c.read_line.result) (sym front) own.read;
       answer = answered.0;
       cells = front ∙ answered.1;
       card = refl;

@@ -10,10 +10,10 @@ read_cells-requires g c =
     let tag = c.args.self.now in
     let card = tag.card.now in
     let own = c.cells.ensures in
-    let fits = card.long in
+    let n = length card.locators.items in
+    let fits = card.checked.shape.most_cells in
     let long = tag.long in
     record {
-      checked = c.requires;
-      long = ap length own ∙ length-take-le card.cells tag.table.cells (omega arith);
+      long = ap length own ∙ length-take-le n tag.table.cells (omega arith);
       lettered = subst (Lettered card.letters) (sym own) (∥∥₁_elim tag.lettered (lettered_prop card.letters _) (λ each. each));
     }
