@@ -6,11 +6,12 @@ use Rattle.codes.specs.Code.{Code}
 use Rattle.codes.specs.Cells.{blank_cell}
 use Rattle.codes.specs.declared.cell.Cell.{Cell}
 use Rattle.faults.specs.declared.body_fault.BodyFault.{BodyFault}
-use Rattle.bodies.specs.CardShapes.{tray_code, ShapeOf}
+use Rattle.codes.specs.AnyCards.{any_code}
+use Rattle.bodies.specs.CardShapes.{ShapeOf}
 use Rattle.bodies.specs.CellBodies.{CellsIn, CellsRefused}
 use Rattle.bodies.specs.SameCards.{SameCard}
-use Rattle.bodies.specs.declared.card_body.TrayCard.{TrayCard}
-use Rattle.bodies.specs.declared.card_body.TrayCard.TheVariants.{Prime, Binary}
+use Rattle.codes.specs.declared.any_card.AnyCard.{AnyCard}
+use Rattle.codes.specs.declared.any_card.AnyCard.TheVariants.{Prime, Binary}
 use Rattle.bodies.specs.declared.card_shape.CardShape.{CardShape}
 use Rattle.bodies.specs.declared.cells_refusal.CellsRefusal.TheVariants as cells-refusal
 use Rattle.bodies.proofs.OneCard.{card_never, card_reads_back}
@@ -28,8 +29,7 @@ use Rattle.trayfile.specs.declared.turn.Turn.TheVariants.{Start, InTurn, AfterNo
 use Rattle.trayfile.specs.declared.turn.Task.{Task}
 use Rattle.trayfile.specs.declared.turn.Task.TheVariants as task
 use Rattle.traylines.specs.LastCards.{LastCard, Passed}
-use Rattle.traylines.specs.FileLines.{IsUnread}
-use Rattle.traylines.specs.WordUnder.{UnderFound, TrayWord, Under}
+use Rattle.traylines.specs.WordUnder.{UnderFound, AnyWord, Under}
 use Rattle.traylines.specs.declared.card_word.UnderRefusal.{UnderRefusal}
 use Rattle.traylines.specs.declared.card_word.UnderRefusal.TheVariants as under
 use Rattle.traylines.specs.declared.word_reading.WordRefusal.TheVariants as word
@@ -73,13 +73,13 @@ cells_never code body cells fault is refused =
     let back = cells_read_back code body cells buffer buffer (Err (cells-refusal.Body fault)) is long (long, refused, refl) in
     let none : ◌≡◌ {A = ℕ} 0 1 = cc back.0 in omega arith
 
-same_code : (card found : TrayCard) → SameCard card found → tray_code card ≡ tray_code found
+same_code : (card found : AnyCard) → SameCard card found → any_code card ≡ any_code found
 same_code (Prime a) (Prime b) same = same.1
 same_code (Binary a) (Binary b) same = same.1
 same_code (Prime a) (Binary b) same = absurd same
 same_code (Binary a) (Prime b) same = absurd same
 
-under_code : (card : TrayCard) (body : List ℕ) (fault : BodyFault) → TrayWord card body (Err (word.Body fault)) → CellsRefused (length (tray_code card).locators) (tray_code card).letters body fault
+under_code : (card : AnyCard) (body : List ℕ) (fault : BodyFault) → AnyWord card body (Err (word.Body fault)) → CellsRefused (length (any_code card).locators) (any_code card).letters body fault
 under_code (Prime card) body fault w = w
 under_code (Binary card) body fault w = w
 
@@ -91,9 +91,15 @@ passed_never card_body body fault (shape, (card, is, shaped), (cells, in-shape))
     let back = card_reads_back card_body card (Ok u.card) is u.read in
     let found : u.card ≡ back.0 = cc back.1 in
     let codes = same_code card u.card (subst (SameCard card) (sym found) back.2) in
-    cells_never (tray_code u.card) body cells fault
-    (subst (λ (code : Code). CellsIn (length code.locators) code.letters body cells) codes (shaped_cells (tray_code card) shape body cells shaped in-shape))
+    cells_never (any_code u.card) body cells fault
+    (subst (λ (code : Code). CellsIn (length code.locators) code.letters body cells) codes (shaped_cells (any_code card) shape body cells shaped in-shape))
     (under_code u.card body fault u.word)
+
+-- the cells do not read; neither they nor the card are refused
+abbrev pub IsUnread : UnderRefusal → Type 0
+IsUnread (under.Card fault) = ⊥
+IsUnread (under.Word (word.Body fault)) = ⊥
+IsUnread (under.Word (word.Unread refusal)) = Unit {0}
 
 -- what the reader passed can only not read
 pub unread : (card_body body : List ℕ) (refusal : UnderRefusal) → ∥ Passed card_body body ∥₁ → UnderFound card_body body (Err refusal) → IsUnread refusal

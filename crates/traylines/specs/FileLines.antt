@@ -33,25 +33,10 @@ counts_with end (step.Lost line) = record { read = end.read; lost = one_more end
 counts_with end (step.End line) = end
 counts_with end (step.Fault line) = end
 
--- the cells do not read; neither they nor the card are refused
-abbrev pub IsUnread : UnderRefusal → Type 0
-IsUnread (under.Card fault) = ⊥
-IsUnread (under.Word (word.Body fault)) = ⊥
-IsUnread (under.Word (word.Unread refusal)) = Unit {0}
-
--- That cells do not read, with the refusal's number, at the record's place.
-abbrev pub RefusalTold : ℕ → UnderRefusal → Step → Type 0
-RefusalTold place refusal (step.Lost line) =
-    (line.place ≡ place) × ((unread : ReadRefusal) × (line.number ≡ read_number unread) × (refusal ≡ under.Word (word.Unread unread)))
-RefusalTold place refusal (step.Read at word_read) = ⊥
-RefusalTold place refusal step.Silent = ⊥
-RefusalTold place refusal (step.End line) = ⊥
-RefusalTold place refusal (step.Fault line) = ⊥
-
--- The word of the cells under the card, at the record's place, or its refusal.
+-- The word of the cells under the card, at the record's place, or why they do not read; neither they nor the card are refused.
 abbrev pub CellsTold : ℕ → List ℕ → List ℕ → Step → Type 0
 CellsTold place card body (step.Read at word_read) = (at ≡ place) × UnderFound card body (Ok word_read)
-CellsTold place card body (step.Lost line) = (refusal : UnderRefusal) × UnderFound card body (Err refusal) × RefusalTold place refusal (step.Lost line)
+CellsTold place card body (step.Lost line) = (line.place ≡ place) × UnderFound card body (Err (under.Word (word.Unread line.refusal)))
 CellsTold place card body step.Silent = ⊥
 CellsTold place card body (step.End line) = ⊥
 CellsTold place card body (step.Fault line) = ⊥

@@ -2,16 +2,17 @@
 use Rattle.std.specs.Prelude.{ℕ, List}
 use Rattle.codes.specs.declared.cell.Cell.{Cell}
 use Rattle.bodies.specs.CardBodies.{CardIn}
-use Rattle.bodies.specs.CardShapes.{tray_code, ShapeOf}
+use Rattle.codes.specs.AnyCards.{any_code}
+use Rattle.bodies.specs.CardShapes.{ShapeOf}
 use Rattle.bodies.specs.CellBodies.{CellsIn}
-use Rattle.bodies.specs.declared.card_body.TrayCard.{TrayCard}
+use Rattle.codes.specs.declared.any_card.AnyCard.{AnyCard}
 use Rattle.bodies.specs.declared.card_shape.CardShape.{CardShape}
 use Rattle.trayfile.specs.declared.turn.Turn.{Turn}
 use Rattle.trayfile.specs.declared.turn.Turn.TheVariants.{Start, InTurn, AfterNote}
 
 -- the body of a card of this shape
 abbrev pub ShapedCard : CardShape → List ℕ → Type 0
-ShapedCard shape body = (card : TrayCard) × CardIn body card × ShapeOf (tray_code card) shape
+ShapedCard shape body = (card : AnyCard) × CardIn body card × ShapeOf (any_code card) shape
 
 -- once a card was read, this is the body of a card of the shape that the reader keeps
 abbrev pub LastCard : Turn → List ℕ → Type 0

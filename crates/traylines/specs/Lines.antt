@@ -2,6 +2,7 @@
 use Rattle.std.specs.Prelude.{ℕ, List, ◌++◌, codes, decimal}
 use Rattle.faults.specs.declared.layer.Layer.{Layer}
 use Rattle.faults.specs.declared.layer.Layer.TheVariants.{Field, Card, Tag, File}
+use Rattle.reading.specs.Reading.{read_number}
 use Rattle.trayfile.specs.Faults.{fault_number}
 use Rattle.codes.specs.WordText.{word_text}
 use Rattle.traylines.specs.declared.line.LostLine.{LostLine}
@@ -11,7 +12,7 @@ use Rattle.traylines.specs.declared.line.ReadLine.{ReadLine}
 
 -- LOST, the record's place and the refusal's number
 abbrev pub lost_text : LostLine → List ℕ
-lost_text l = codes "LOST " ++ (decimal l.place ++ (codes " " ++ decimal l.number))
+lost_text l = codes "LOST " ++ (decimal l.place ++ (codes " " ++ decimal (read_number l.refusal)))
 
 -- END, how many read and how many do not
 abbrev pub end_text : EndLine → List ℕ

@@ -2,31 +2,26 @@
 use Rattle.std.specs.Prelude.{ℕ, List, Ok, Err, Result}
 use Rattle.fields.specs.Prime.{prime_meaning}
 use Rattle.fields.specs.Binary.{binary_meaning}
-use Rattle.codes.specs.Cards.{Checked, card_code}
+use Rattle.codes.specs.Cards.{card_code}
 use Rattle.bodies.specs.CardBodies.{CardIn, CardRead}
-use Rattle.bodies.specs.declared.card_body.TrayCard.{TrayCard}
-use Rattle.bodies.specs.declared.card_body.TrayCard.TheVariants.{Prime, Binary}
+use Rattle.codes.specs.declared.any_card.AnyCard.{AnyCard}
+use Rattle.codes.specs.declared.any_card.AnyCard.TheVariants.{Prime, Binary}
 use Rattle.traylines.specs.WordReading.{WordFound}
 use Rattle.traylines.specs.declared.word_read.WordRead.{WordRead}
 use Rattle.traylines.specs.declared.word_reading.WordRefusal.{WordRefusal}
 use Rattle.traylines.specs.declared.card_word.UnderRefusal.{UnderRefusal}
 use Rattle.traylines.specs.declared.card_word.UnderRefusal.TheVariants.{Card, Word}
 
--- the card keeps every rule
-abbrev pub CheckedCard : TrayCard → Type 0
-CheckedCard (Prime card) = Checked (prime_meaning card.field) (card_code card)
-CheckedCard (Binary card) = Checked (binary_meaning card.field) (card_code card)
-
 -- the word under a card of either kind
-abbrev pub TrayWord : TrayCard → List ℕ → Result WordRead WordRefusal → Type 0
-TrayWord (Prime card) body r = WordFound (prime_meaning card.field).arithmetic (card_code card) body r
-TrayWord (Binary card) body r = WordFound (binary_meaning card.field).arithmetic (card_code card) body r
+abbrev pub AnyWord : AnyCard → List ℕ → Result WordRead WordRefusal → Type 0
+AnyWord (Prime card) body r = WordFound (prime_meaning card.field).arithmetic (card_code card) body r
+AnyWord (Binary card) body r = WordFound (binary_meaning card.field).arithmetic (card_code card) body r
 
 -- the word under the card whose body stands first
 pub record Under (card_body body : List ℕ) (r : Result WordRead WordRefusal) : Type 0 where
-  pub card : TrayCard
+  pub card : AnyCard
   pub read : CardIn card_body card
-  pub word : TrayWord card body r
+  pub word : AnyWord card body r
 
 abbrev pub UnderFound : List ℕ → List ℕ → Result WordRead UnderRefusal → Type 0
 UnderFound card_body body (Ok word) = Under card_body body (Ok word)

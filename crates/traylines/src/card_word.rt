@@ -1,37 +1,52 @@
 // Reads a cells record under the card that stands in another record.
-ghost use Rattle.traylines.specs.WordUnder.{CheckedCard, TrayWord, UnderFound};
+ghost use Rattle.std.specs.Prelude.{◌≡◌};
+ghost use Rattle.traylines.specs.WordUnder.{AnyWord, UnderFound};
+ghost use Rattle.traylines.specs.declared.card_word.UnderRefusal.TheVariants.{Card as card_refused, Word as word_refused};
 
 use crate::word_read::WordRead;
 use crate::word_reading::{WordRefusal, read_word};
-use bodies::{TrayCard, read_card};
+use bodies::read_card;
+use codes::AnyCard;
 use faults::BodyFault;
+use thiserror::Error;
 
 // The card's body is refused, or the word is not read under the card.
-#[derive(Clone, Copy)]
+#[derive(Clone, Copy, PartialEq, Eq, Debug, Error)]
 pub enum UnderRefusal {
+    #[error(transparent)]
     Card(BodyFault),
+    #[error(transparent)]
     Word(WordRefusal),
 }
 
 pub fn word_under(card_body: &[u8], body: &[u8]) -> Result<WordRead, UnderRefusal>
     ensures { UnderFound card_body.now body.now result }
 {
-    match read_card(card_body) {
-        Ok(card) => match tray_word(&card, body) {
-            Ok(word) => Ok(word),
-            Err(refusal) => Err(UnderRefusal::Word(refusal)),
-        },
-        Err(fault) => Err(UnderRefusal::Card(fault)),
+    let card = read_card(card_body)?;
+    Ok(any_word(&card, body)?)
+}
+
+fn any_word(card: &AnyCard, body: &[u8]) -> Result<WordRead, WordRefusal>
+    ensures { AnyWord card.now body.now result }
+{
+    match card {
+        AnyCard::Prime(card) => read_word(card, body),
+        AnyCard::Binary(card) => read_word(card, body),
     }
 }
 
-// Under a card of either kind.
-fn tray_word(card: &TrayCard, body: &[u8]) -> Result<WordRead, WordRefusal>
-    requires { CheckedCard card.now }
-    ensures { TrayWord card.now body.now result }
-{
-    match card {
-        TrayCard::Prime(card) => read_word(card, body),
-        TrayCard::Binary(card) => read_word(card, body),
+impl From<BodyFault> for UnderRefusal {
+    ghost from_gives = { λ fault refusal. refusal ≡ card_refused fault };
+
+    fn from(fault: BodyFault) -> UnderRefusal {
+        UnderRefusal::Card(fault)
+    }
+}
+
+impl From<WordRefusal> for UnderRefusal {
+    ghost from_gives = { λ word refusal. refusal ≡ word_refused word };
+
+    fn from(word: WordRefusal) -> UnderRefusal {
+        UnderRefusal::Word(word)
     }
 }

@@ -4,6 +4,7 @@ ghost use Rattle.traylines.specs.Lines.{lost_text, end_text, fault_text, read_te
 
 use codes::Word;
 use faults::Layer;
+use reading::ReadRefusal;
 use std::fmt;
 use trayfile::Fault;
 
@@ -16,11 +17,11 @@ pub struct ReadLine<'a> {
     pub word: Word<'a>,
 }
 
-// A cells record that does not read, and the refusal's number.
+// A cells record that does not read, and why.
 #[derive(Clone, Copy)]
 pub struct LostLine {
     pub place: usize,
-    pub number: u32,
+    pub refusal: ReadRefusal,
 }
 
 // How many cells records read, and how many do not.
@@ -53,7 +54,7 @@ impl fmt::Display for LostLine {
 
     fn fmt<W: fmt::Write>(&self, f: &mut fmt::Formatter<W>) -> fmt::Result {
         let place = self.place;
-        let number = self.number;
+        let number = self.refusal.number();
         write!(f, "LOST {place} {number}")
     }
 }

@@ -1,24 +1,24 @@
 // Prints the lines of a whole file.
-ghost use Rattle.std.specs.Prelude.{◌≡◌, take};
+ghost use Rattle.std.specs.Prelude.{◌≡◌};
 
 use crate::file_lines::{FileLines, Step};
 use crate::line::ReadLine;
-use codes::Word;
 use crate::word_read::WordRead;
+use codes::Word;
 
 // The line of a word that was read at a place.
 fn read_line(place: usize, word: &WordRead) -> ReadLine<'_>
     ensures place { result.place ≡ place }
     ensures wrong { result.wrong ≡ word.now.counts.wrong }
     ensures blank { result.blank ≡ word.now.counts.blank }
-    ensures letters { result.word.letters.now ≡ take word.now.count word.now.letters }
+    ensures letters { result.word.letters.now ≡ word.now.letters.items }
 {
     ReadLine {
         place,
         wrong: word.counts.wrong,
         blank: word.counts.blank,
         word: Word {
-            letters: &word.letters[0..word.count],
+            letters: word.letters.as_slice(),
         },
     }
 }
@@ -26,20 +26,20 @@ fn read_line(place: usize, word: &WordRead) -> ReadLine<'_>
 // Each step of the file is carried out to the output, and nothing else.
 pub fn print_lines(rt: &HostRuntime, file: &[u8]) -> anyhow::Result<()> {
     let mut lines = FileLines::new(file);
-    'records: loop {
+    loop {
         let step = lines.step();
-        print_step(rt, step)?;
+        print_step(rt, &step)?;
         if !step.goes_on() {
             return Ok(());
         }
     }
 }
 
-fn print_step(rt: &HostRuntime, step: Step) -> anyhow::Result<()> {
+fn print_step(rt: &HostRuntime, step: &Step) -> anyhow::Result<()> {
     match step {
         Step::Silent => {}
         Step::Read { place, word } => {
-            let line = read_line(place, &word);
+            let line = read_line(*place, word);
             println!(rt; "{line}")?;
         }
         Step::Lost(line) => println!(rt; "{line}")?,

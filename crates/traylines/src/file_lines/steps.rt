@@ -1,7 +1,7 @@
 // The steps through a file.
 ghost use Rattle.std.specs.Prelude.{◌≡◌};
 ghost use Rattle.traylines.specs.LastCards.{Passed};
-ghost use Rattle.traylines.specs.FileLines.{Fresh, Stepped, IsUnread, CellsTold, RefusalTold, counts_with, goes_on};
+ghost use Rattle.traylines.specs.FileLines.{Fresh, Stepped, CellsTold, counts_with, goes_on};
 
 use crate::card_word::{UnderRefusal, word_under};
 use crate::file_lines::{FileLines, Step};
@@ -47,7 +47,7 @@ impl<'a> FileLines<'a> {
                 }
                 Record::Cells(body) => {
                     let step = tell_cells(place, card, body);
-                    let end = counted(end, step);
+                    let end = counted(end, &step);
                     *self = FileLines { reader, card, end };
                     step
                 }
@@ -58,14 +58,10 @@ impl<'a> FileLines<'a> {
 
 impl Step {
     // Whether the file has more to tell.
-    pub fn goes_on(self) -> bool
-        ensures { result ≡ goes_on self }
+    pub fn goes_on(&self) -> bool
+        ensures { result ≡ goes_on self.now }
     {
-        match self {
-            Step::End(_) => false,
-            Step::Fault(_) => false,
-            _ => true,
-        }
+        !matches!(self, Step::End(_) | Step::Fault(_))
     }
 }
 
@@ -76,26 +72,18 @@ fn tell_cells(place: usize, card: &[u8], body: &[u8]) -> Step
 {
     match word_under(card, body) {
         Ok(word) => Step::Read { place, word },
-        Err(refusal) => tell_refusal(place, refusal),
-    }
-}
-
-fn tell_refusal(place: usize, refusal: UnderRefusal) -> Step
-    requires { IsUnread refusal }
-    ensures { RefusalTold place refusal result }
-{
-    match refusal {
-        UnderRefusal::Word(WordRefusal::Unread(unread)) => Step::Lost(LostLine {
-            place,
-            number: unread.number(),
-        }),
-        _ => unreachable(),
+        Err(UnderRefusal::Word(WordRefusal::Unread(refusal))) => {
+            Step::Lost(LostLine { place, refusal })
+        }
+        // The reader passed the card and the cells.
+        Err(UnderRefusal::Card(_)) => unreachable(),
+        Err(UnderRefusal::Word(WordRefusal::Body(_))) => unreachable(),
     }
 }
 
 // The counts with this step among them.
-fn counted(end: EndLine, step: Step) -> EndLine
-    ensures { result ≡ counts_with end step }
+fn counted(end: EndLine, step: &Step) -> EndLine
+    ensures { result ≡ counts_with end step.now }
 {
     match step {
         Step::Read { .. } => EndLine {
