@@ -1,13 +1,10 @@
 -- What a file's records tell, one after another. Assumes nothing.
 use Rattle.std.specs.Prelude.{◌≡◌, ℕ, ◌+◌, ◌-◌, ◌^◌, min, Bool, true, false, List, [], Some, None, Ok, Err, Option, Result}
-use Rattle.reading.specs.Reading.{read_number}
-use Rattle.reading.specs.declared.read_answer.ReadRefusal.{ReadRefusal}
 use Rattle.trayfile.specs.Readers.{Opened, Next}
 use Rattle.trayfile.specs.declared.fault.Fault.{Fault}
 use Rattle.trayfile.specs.declared.record.Record.{Record}
 use Rattle.trayfile.specs.declared.record.Record.TheVariants.{Card, Cells, Note}
 use Rattle.traylines.specs.WordUnder.{UnderFound}
-use Rattle.traylines.specs.declared.card_word.UnderRefusal.{UnderRefusal}
 use Rattle.traylines.specs.declared.card_word.UnderRefusal.TheVariants as under
 use Rattle.traylines.specs.declared.word_reading.WordRefusal.TheVariants as word
 use Rattle.traylines.specs.declared.line.EndLine.{EndLine}
