@@ -11,6 +11,15 @@ use pairs::realise;
 use std::alloc::Global;
 use tags::{Call, Event, play_script};
 
+// A case of a field: what is asked, the numbers after the field's, and what stands after the first ';'.
+#[derive(Clone, Copy)]
+struct Case<'a> {
+    heap: Global,
+    word: &'a str,
+    numbers: &'a [u32],
+    rest: &'a str,
+}
+
 // A case is a word and its argument. All but a line begin with a field: its kind, and what it is made from.
 pub fn answer(heap: Global, line: &str) -> anyhow::Result<String> {
     let Some((word, argument)) = line.split_once(' ') else {
@@ -24,13 +33,19 @@ pub fn answer(heap: Global, line: &str) -> anyhow::Result<String> {
     let [kind, origin, numbers @ ..] = numbers.as_slice() else {
         bail!("a field has a kind and an origin")
     };
+    let case = Case {
+        heap,
+        word,
+        numbers,
+        rest,
+    };
     match FieldKind::try_from(*kind) {
         Ok(FieldKind::Prime) => match PrimeField::new(*origin) {
-            Ok(field) => field_case(heap, word, field, numbers, rest),
+            Ok(field) => field_case(case, field),
             Err(cause) => refused(heap, cause.number(), cause),
         },
         _ => match BinaryField::new(*origin) {
-            Ok(field) => field_case(heap, word, field, numbers, rest),
+            Ok(field) => field_case(case, field),
             Err(cause) => refused(heap, cause.number(), cause),
         },
     }
@@ -44,53 +59,43 @@ fn refused(
     Ok(format!(in heap; "refused {number} {cause}")?)
 }
 
-fn field_case<F: LetteredField + Drop>(
-    heap: Global,
-    word: &str,
-    field: F,
-    numbers: &[u32],
-    rest: &str,
-) -> anyhow::Result<String>
+fn field_case<F: LetteredField + Drop>(case: Case<'_>, field: F) -> anyhow::Result<String>
     requires { F.Field.accepted field }
 {
     // One word, one call: a table of closures would be no plainer.
-    match word {
-        "field" => taken(heap, &field),
-        "arithmetic" => arithmetic(heap, &field, numbers),
-        "inverses" => inverses(heap, &field),
-        "admits" => admits(heap, &field),
-        "sums" => sums_case(heap, &field, numbers, rest),
-        "realise" => realise_case(heap, &field, rest),
-        "card" => card_case(heap, field, numbers, rest),
-        "encode" => encode_case(heap, field, numbers, rest),
-        "read" => read_case(heap, field, numbers, rest),
+    match case.word {
+        "field" => taken(case, &field),
+        "arithmetic" => arithmetic(case, &field),
+        "inverses" => inverses(case, &field),
+        "admits" => admits(case, &field),
+        "sums" => sums_case(case, &field),
+        "realise" => realise_case(case, &field),
+        "card" => card_case(case, field),
+        "encode" => encode_case(case, field),
+        "read" => read_case(case, field),
         _ => bail!("there is no such case"),
     }
 }
 
-fn taken<F: LetteredField>(heap: Global, field: &F) -> anyhow::Result<String> {
+fn taken<F: LetteredField>(case: Case<'_>, field: &F) -> anyhow::Result<String> {
     let size = field.size();
-    Ok(format!(in heap; "taken, {size} elements")?)
+    Ok(format!(in case.heap; "taken, {size} elements")?)
 }
 
 // a b: the sum, the difference and the product.
-fn arithmetic<F: LetteredField>(
-    heap: Global,
-    field: &F,
-    numbers: &[u32],
-) -> anyhow::Result<String> {
-    let [a, b] = numbers else {
+fn arithmetic<F: LetteredField>(case: Case<'_>, field: &F) -> anyhow::Result<String> {
+    let [a, b] = case.numbers else {
         bail!("arithmetic takes two numbers")
     };
     let sum = field.add(*a, *b);
     let difference = field.sub(*a, *b);
     let product = field.mul(*a, *b);
-    Ok(format!(in heap; "{sum} {difference} {product}")?)
+    Ok(format!(in case.heap; "{sum} {difference} {product}")?)
 }
 
 // The inverses of 0 to q, '-' where there is none.
-fn inverses<F: LetteredField>(heap: Global, field: &F) -> anyhow::Result<String> {
-    let mut out = format!(in heap; "inverses")?;
+fn inverses<F: LetteredField>(case: Case<'_>, field: &F) -> anyhow::Result<String> {
+    let mut out = format!(in case.heap; "inverses")?;
     for a in 0..=field.size() {
         match field.invert(a) {
             Some(b) => write!(out, " {b}")?,
@@ -101,8 +106,8 @@ fn inverses<F: LetteredField>(heap: Global, field: &F) -> anyhow::Result<String>
 }
 
 // The alphabet sizes from 0 to one above q that are admitted.
-fn admits<F: LetteredField>(heap: Global, field: &F) -> anyhow::Result<String> {
-    let mut out = format!(in heap; "admits")?;
+fn admits<F: LetteredField>(case: Case<'_>, field: &F) -> anyhow::Result<String> {
+    let mut out = format!(in case.heap; "admits")?;
     for letters in 0..=field.size().saturating_add(1) {
         if field.admits(letters) {
             write!(out, " {letters}")?;
@@ -112,21 +117,17 @@ fn admits<F: LetteredField>(heap: Global, field: &F) -> anyhow::Result<String> {
 }
 
 // r; locators; multipliers; cells: the r sums.
-fn sums_case<F: LetteredField>(
-    heap: Global,
-    field: &F,
-    numbers: &[u32],
-    rest: &str,
-) -> anyhow::Result<String> {
-    let [rows] = numbers else {
+fn sums_case<F: LetteredField>(case: Case<'_>, field: &F) -> anyhow::Result<String> {
+    let heap = case.heap;
+    let [rows] = case.numbers else {
         bail!("sums begin with the rows")
     };
-    let case = CodeCase::read(heap, field.size(), *rows, rest)?;
-    let cells = read_cells(heap, case.last)?;
+    let code = CodeCase::read(heap, field.size(), *rows, case.rest)?;
+    let cells = read_cells(heap, code.last)?;
     let mut buffer = vec![in heap; 0; *rows as usize]?;
     let over = CodeOver {
         field,
-        code: case.code(),
+        code: code.code(),
     };
     match over.sums(cells.as_slice(), buffer.as_mut_slice()) {
         Ok(()) => {
@@ -140,55 +141,47 @@ fn sums_case<F: LetteredField>(
 }
 
 // ;sequence: the degree of the minimal pair, then f and w up to their degrees.
-fn realise_case<F: LetteredField>(heap: Global, field: &F, rest: &str) -> anyhow::Result<String> {
-    let sequence = read_numbers(heap, rest)?;
+fn realise_case<F: LetteredField>(case: Case<'_>, field: &F) -> anyhow::Result<String> {
+    let sequence = read_numbers(case.heap, case.rest)?;
     let mut f = [0; COEFFICIENTS];
     let mut w = [0; COEFFICIENTS];
     match realise(field, sequence.as_slice(), &mut f, &mut w) {
         Ok(degree) => {
             let f = up_to_degree(&f);
             let w = up_to_degree(&w);
-            Ok(format!(in heap; "degree {degree}, f{f}, w{w}")?)
+            Ok(format!(in case.heap; "degree {degree}, f{f}, w{w}")?)
         }
-        Err(refusal) => refused(heap, refusal.number(), refusal),
+        Err(refusal) => refused(case.heap, refusal.number(), refusal),
     }
 }
 
 // letters r; locators; multipliers: whether the check grants the card.
-fn card_case<F: LetteredField + Drop>(
-    heap: Global,
-    field: F,
-    numbers: &[u32],
-    rest: &str,
-) -> anyhow::Result<String>
+fn card_case<F: LetteredField + Drop>(case: Case<'_>, field: F) -> anyhow::Result<String>
     requires { F.Field.accepted field }
 {
-    let [letters, rows] = numbers else {
+    let heap = case.heap;
+    let [letters, rows] = case.numbers else {
         bail!("a card begins with the letters and the rows")
     };
-    let case = CodeCase::read(heap, *letters, *rows, rest)?;
-    match Card::check(field, case.code()) {
+    let code = CodeCase::read(heap, *letters, *rows, case.rest)?;
+    match Card::check(field, code.code()) {
         Ok(_) => Ok(format!(in heap; "card granted")?),
         Err(cause) => refused(heap, cause.number(), cause),
     }
 }
 
 // letters r; locators; multipliers; data: the codeword that begins with the data, in a buffer of as many cells.
-fn encode_case<F: LetteredField + Drop>(
-    heap: Global,
-    field: F,
-    numbers: &[u32],
-    rest: &str,
-) -> anyhow::Result<String>
+fn encode_case<F: LetteredField + Drop>(case: Case<'_>, field: F) -> anyhow::Result<String>
     requires { F.Field.accepted field }
 {
-    let [letters, rows] = numbers else {
+    let heap = case.heap;
+    let [letters, rows] = case.numbers else {
         bail!("encoding begins with the letters and the rows")
     };
-    let case = CodeCase::read(heap, *letters, *rows, rest)?;
-    let letters_in = read_numbers(heap, case.last)?;
-    let mut word = vec![in heap; 0; case.code().locators.len()]?;
-    match Card::check(field, case.code()) {
+    let code = CodeCase::read(heap, *letters, *rows, case.rest)?;
+    let letters_in = read_numbers(heap, code.last)?;
+    let mut word = vec![in heap; 0; code.code().locators.len()]?;
+    match Card::check(field, code.code()) {
         Ok(card) => match encode(&card, letters_in.as_slice(), word.as_mut_slice()) {
             Ok(()) => {
                 let word = Word {
@@ -203,20 +196,16 @@ fn encode_case<F: LetteredField + Drop>(
 }
 
 // letters r; locators; multipliers; cells: a tag with these cells noted is read.
-fn read_case<F: LetteredField + Drop>(
-    heap: Global,
-    field: F,
-    numbers: &[u32],
-    rest: &str,
-) -> anyhow::Result<String>
+fn read_case<F: LetteredField + Drop>(case: Case<'_>, field: F) -> anyhow::Result<String>
     requires { F.Field.accepted field }
 {
-    let [letters, rows] = numbers else {
+    let heap = case.heap;
+    let [letters, rows] = case.numbers else {
         bail!("reading begins with the letters and the rows")
     };
-    let case = CodeCase::read(heap, *letters, *rows, rest)?;
-    let calls = note_calls(heap, case.last, case.code().locators.len())?;
-    match Card::check(field, case.code()) {
+    let code = CodeCase::read(heap, *letters, *rows, case.rest)?;
+    let calls = note_calls(heap, code.last, code.code().locators.len())?;
+    match Card::check(field, code.code()) {
         Ok(card) => {
             let blank = Event::Wipe {
                 cell: 1,

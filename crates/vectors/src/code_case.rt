@@ -15,7 +15,12 @@ pub struct CodeCase<'a> {
 
 impl<'a> CodeCase<'a> {
     // From a text of locators; multipliers; the last part.
-    pub fn read(heap: Global, letters: u32, rows: u32, text: &'a str) -> anyhow::Result<CodeCase<'a>> {
+    pub fn read(
+        heap: Global,
+        letters: u32,
+        rows: u32,
+        text: &'a str,
+    ) -> anyhow::Result<CodeCase<'a>> {
         let mut parts = text.split(';');
         let locators = read_numbers(heap, parts.next().unwrap_or(""))?;
         let multipliers = read_numbers(heap, parts.next().unwrap_or(""))?;

@@ -27,7 +27,11 @@ pub fn sums_of_six() -> [u32; 4]
         multipliers: &[1, 1, 1, 1, 1, 1],
     };
     let mut buffer = [0; 4];
-    let Ok(()) = (CodeOver { field: &field, code }).sums(&cells, &mut buffer) else {
+    let Ok(()) = (CodeOver {
+        field: &field,
+        code,
+    })
+    .sums(&cells, &mut buffer) else {
         unreachable()
     };
     buffer
@@ -59,7 +63,11 @@ pub fn sum_of_book_number() -> [u32; 1]
         multipliers: &[10, 9, 8, 7, 6, 5, 4, 3, 2, 1],
     };
     let mut buffer = [0];
-    let Ok(()) = (CodeOver { field: &field, code }).sums(&cells, &mut buffer) else {
+    let Ok(()) = (CodeOver {
+        field: &field,
+        code,
+    })
+    .sums(&cells, &mut buffer) else {
         unreachable()
     };
     buffer
