@@ -68,7 +68,7 @@ fn field_case<F: LetteredField + Drop>(case: Case<'_>, field: F) -> anyhow::Resu
         "arithmetic" => arithmetic(case, &field),
         "inverses" => inverses(case, &field),
         "admits" => admits(case, &field),
-        "sums" => sums_case(case, &field),
+        "sums" => sums_case(case, field),
         "realise" => realise_case(case, &field),
         "card" => card_case(case, field),
         "encode" => encode_case(case, field),
@@ -117,7 +117,7 @@ fn admits<F: LetteredField>(case: Case<'_>, field: &F) -> anyhow::Result<String>
 }
 
 // r; locators; multipliers; cells: the r sums.
-fn sums_case<F: LetteredField>(case: Case<'_>, field: &F) -> anyhow::Result<String> {
+fn sums_case<F: LetteredField + Drop>(case: Case<'_>, field: F) -> anyhow::Result<String> {
     let heap = case.heap;
     let [rows] = case.numbers else {
         bail!("sums begin with the rows")
@@ -126,7 +126,7 @@ fn sums_case<F: LetteredField>(case: Case<'_>, field: &F) -> anyhow::Result<Stri
     let cells = read_cells(heap, code.last)?;
     let mut buffer = vec![in heap; 0; *rows as usize]?;
     let over = CodeOver {
-        field,
+        field: &field,
         code: code.code(),
     };
     match over.sums(cells.as_slice(), buffer.as_mut_slice()) {
