@@ -1,7 +1,7 @@
 // The engraved tags that are read.
 ghost use Rattle.std.specs.Prelude.{◌≡◌, true};
 ghost use Rattle.fields.specs.Binary.{binary_meaning};
-ghost use Rattle.codes.specs.Cards.{Checked, card_code};
+ghost use Rattle.codes.specs.Cards.{card_code};
 ghost use Rattle.tags.specs.Tags.{tag_code, tag_cells};
 ghost use Rattle.bench.specs.Readings.{SomeWord, ReadRight};
 
@@ -18,12 +18,11 @@ const DATA: usize = CELLS - ENGRAVED.rows;
 
 // A word of the card: the letters 0, 5, 10 and so on, encoded.
 pub fn some_word(card: &Card<BinaryField>) -> Result<[u32; CELLS], EncodeRefusal>
-    requires { Checked (binary_meaning card.now.field) (card_code card.now) }
     ensures { SomeWord (binary_meaning card.now.field) (card_code card.now) result }
 {
     let mut letters = [0; DATA];
-    for j in 0..DATA {
-        letters[j] = 5 * j as u32;
+    for (j, letter) in letters.iter_mut().enumerate() {
+        *letter = 5 * j as u32;
     }
     let mut word = [0; CELLS];
     encode(card, &letters, &mut word)?;
@@ -45,17 +44,11 @@ pub fn note_damaged(tag: &mut Tag<'_, BinaryField>, word: &[u32; CELLS], damage:
 
 // Whether the tag reads as the word, with the damage counted.
 pub fn reads(tag: &Tag<'_, BinaryField>, word: &[u32; CELLS], damage: Damage) -> bool
-    requires { Checked (binary_meaning tag.now.card.now.field) (tag_code tag.now) }
     ensures { result ≡ true → ReadRight (binary_meaning tag.now.card.now.field).arithmetic (tag_code tag.now) (tag_cells tag.now) word.now damage }
 {
     let mut read = [0; CELLS];
-    match tag.read(&mut read) {
-        Ok(counts) => {
-            if counts.wrong != damage.wrong || counts.blank != damage.blank {
-                return false;
-            }
-            read == *word
-        }
-        Err(_) => false,
-    }
+    let Ok(counts) = tag.read(&mut read) else {
+        return false;
+    };
+    counts.wrong == damage.wrong && counts.blank == damage.blank && read == *word
 }

@@ -15,12 +15,7 @@ use tags::Tag;
 const READINGS: u32 = 20_000;
 
 fn run(rt: &HostRuntime) -> anyhow::Result<()> {
-    let mut measure = false;
-    for argument in env::args(rt)? {
-        if argument.as_str() == "run" {
-            measure = true;
-        }
-    }
+    let measure = env::args(rt)?.any(|argument| argument.as_str() == "run");
     let card = engraved_card();
     println!(rt; "readings of engraved tags: 64 cells, 16 rows, 256 letters")?;
     let Ok(word) = some_word(&card) else {

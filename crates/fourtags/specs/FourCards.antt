@@ -4,7 +4,9 @@ use Rattle.algebra.specs.Meaning.{with_inverses}
 use Rattle.fourfield.specs.FourElements.{four_elements, four_meaning}
 use Rattle.fourfield.specs.declared.FourField.{FourField}
 use Rattle.codes.specs.Code.{Code}
-use Rattle.codes.specs.Cards.{Checked, card_code, card_number}
+use Rattle.fields.specs.declared.field.Field.{Ghosts}
+use Rattle.codes.specs.Checked.{Checked}
+use Rattle.codes.specs.Cards.{card_code, card_number}
 use Rattle.codes.specs.declared.card.Card.{Card}
 use Rattle.codes.specs.declared.card_cause.CardCause.{CardCause}
 use Rattle.fields.specs.Elements.{AllBelow}
@@ -20,7 +22,7 @@ abbrev pub TwoOrFour : ℕ → Type 0
 TwoOrFour letters = (letters ≡ 2) ⊎ (letters ≡ 4)
 
 -- A card is made with two letters or with four, and is checked; any other number of letters is refused with 14.
-abbrev pub FourCardMade : ℕ → Result (Card FourField) CardCause → Type 0
+abbrev pub FourCardMade : {g : Ghosts FourField} → ℕ → Result (Card FourField g) CardCause → Type 0
 FourCardMade letters (Ok card) = TwoOrFour letters × (card_code card ≡ four_code letters) × Checked (four_meaning card.field) (card_code card)
 FourCardMade letters (Err cause) = (TwoOrFour letters → ⊥) × (card_number cause ≡ 14)
 

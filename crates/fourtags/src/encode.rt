@@ -8,9 +8,7 @@ use filling::EncodeRefusal;
 pub fn encode_pair(letters: &[u32; DATA]) -> Result<[u32; CELLS], EncodeRefusal>
     ensures { EncodedOnFour letters.now result }
 {
-    let Ok(card) = four_card(4) else {
-        unreachable()
-    };
+    let card = four_card(4).unwrap();
     let mut word = [0; CELLS];
     filling::encode(&card, letters, &mut word)?;
     Ok(word)

@@ -7,9 +7,10 @@ mod encode;
 mod play;
 mod show;
 
+use codes::Word;
 use encode::encode_pair;
 use play::play_calls;
-use show::{EventLine, Letters};
+use show::EventLine;
 use tags::{Call, Event};
 
 // Plays the calls on a tag with so many letters, and tells the journal.
@@ -38,8 +39,8 @@ fn tell_run(rt: &HostRuntime, letters: u32, calls: &[Call<'static>]) -> anyhow::
 fn run(rt: &HostRuntime) -> anyhow::Result<()> {
     match encode_pair(&[1, 2]) {
         Ok(word) => {
-            let letters = Letters { letters: &word };
-            println!(rt; "encoded:{letters}")?;
+            let word = Word { letters: &word };
+            println!(rt; "encoded:{word}")?;
         }
         Err(refusal) => {
             let number = refusal.number();

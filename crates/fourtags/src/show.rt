@@ -2,23 +2,9 @@
 ghost use Rattle.std.specs.Prelude.{◌≡◌};
 ghost use Rattle.fourtags.specs.FourRuns.{refusal_of};
 
+use codes::Word;
 use std::fmt;
 use tags::Event;
-
-// Each letter after a space.
-#[derive(Clone, Copy)]
-pub struct Letters<'a> {
-    pub letters: &'a [u32],
-}
-
-impl<'a> fmt::Display for Letters<'a> {
-    fn fmt<W: fmt::Write>(&self, f: &mut fmt::Formatter<W>) -> fmt::Result {
-        for letter in self.letters {
-            write!(f, " {letter}")?;
-        }
-        Ok(())
-    }
-}
 
 // A call of a run with its answer, on one line.
 #[derive(Clone, Copy)]
@@ -52,10 +38,10 @@ fn write_word<W: fmt::Write>(f: &mut fmt::Formatter<W>, event: Event<'_>) -> fmt
     {
         let wrong = counts.wrong;
         let blank = counts.blank;
-        let letters = Letters {
-            letters: &buffer[0..length.min(buffer.len())],
+        let word = Word {
+            letters: &buffer[..length.min(buffer.len())],
         };
-        write!(f, ": {wrong} wrong, {blank} blank,{letters}")?;
+        write!(f, ": {wrong} wrong, {blank} blank,{word}")?;
     }
     Ok(())
 }

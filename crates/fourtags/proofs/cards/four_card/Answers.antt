@@ -4,7 +4,9 @@ use Rattle.fourfield.specs.FourElements.{four_elements, four_meaning}
 use Rattle.fourfield.specs.declared.FourField.{FourField}
 use Rattle.fourfield.specs.FourLaws.{alphabet_of, two_or_four}
 use Rattle.codes.specs.Code.{Code}
-use Rattle.codes.specs.Cards.{Shape, Checked, CardMade}
+use Rattle.fields.specs.declared.field.Field.{Ghosts}
+use Rattle.codes.specs.Checked.{Shape, Checked}
+use Rattle.codes.specs.Cards.{CardMade}
 use Rattle.codes.specs.declared.card.Card.{Card}
 use Rattle.codes.specs.declared.card_cause.CardCause.{CardCause}
 use Rattle.codes.specs.declared.card_cause.CardCause.TheVariants.{BadShape, NoAlphabet, BadLocator, BadMultiplier}
@@ -15,7 +17,7 @@ use Rattle.fourtags.proofs.cards.four_card.Goals as goal
 shape : (letters : ℕ) → Shape (four_code letters)
 shape letters = search rules
 
-made : (field : FourField) (letters : ℕ) (r : Result (Card FourField) CardCause) → CardMade (four_meaning field) field (four_code letters) r → FourCardMade letters r
+made : {g : Ghosts FourField} (field : FourField) (letters : ℕ) (r : Result (Card FourField g) CardCause) → CardMade (four_meaning field) field (four_code letters) r → FourCardMade letters r
 made field letters (Ok card) (same, values, checked) =
     (two_or_four letters checked.alphabet, values, subst (λ (code : Code). Checked (with_inverses four_elements) code) (sym values) checked)
 made field letters (Err BadShape) bad = absurd (bad (shape letters))
