@@ -18,7 +18,7 @@ use fields::LetteredField;
 pub fn check_cells(shape: CardShape, body: &[u8]) -> Result<(), BodyFault>
     ensures { CellsChecked shape.cells shape.letters body.now result }
 {
-    let _numbers = cell_numbers(shape, body)?;
+    cell_numbers(shape, body)?;
     Ok(())
 }
 

@@ -22,11 +22,10 @@ pub fn read_header(file: &[u8], place: usize, turn: Turn) -> Result<Header, Faul
     ensures { HeaderRead turn place (drop place file.now) result }
 {
     let kind_read = number_at(file, place, place)?;
-    let kind = Kind::try_from(kind_read.value).map_err(|_| file_fault(
-        place,
-        FileCause::StrangeRecord,
-    ))?;
-    let task = task_of(turn, kind).ok_or(file_fault(place, FileCause::OutOfTurn))?;
+    let strange = file_fault(place, FileCause::StrangeRecord);
+    let kind = Kind::try_from(kind_read.value).map_err(|_| strange)?;
+    let out_of_turn = file_fault(place, FileCause::OutOfTurn);
+    let task = task_of(turn, kind).ok_or(out_of_turn)?;
     let length = number_at(file, kind_read.end, place)?;
     let body = length.end;
     let size = length.value as usize;

@@ -88,11 +88,11 @@ fn counted(end: EndLine, step: &Step) -> EndLine
     match step {
         Step::Read { .. } => EndLine {
             read: end.read.saturating_add(1),
-            lost: end.lost,
+            ..end
         },
         Step::Lost(_) => EndLine {
-            read: end.read,
             lost: end.lost.saturating_add(1),
+            ..end
         },
         _ => end,
     }
