@@ -14,7 +14,7 @@ each [] letter s i d h = absurd (omega arith)
 each (mark ∷ marks) letter s zero d h = s.0 ∙ ap (λ x. Some (noted_cell x)) (omega arith)
 each (mark ∷ marks) letter s (suc i) d h = each marks (suc letter) s.1 i d (omega arith) ∙ ap (λ x. Some (noted_cell x)) (omega arith)
 
-pub table : List ℕ
+unfoldable pub table : List ℕ
 table = 48 ∷ 49 ∷ 50 ∷ 51 ∷ 52 ∷ 53 ∷ 54 ∷ 55 ∷ 56 ∷ 57 ∷ 65 ∷ 66 ∷ 67 ∷ 68 ∷ 69 ∷ 70 ∷ 71 ∷ 72 ∷ 73 ∷ 74 ∷ 75 ∷ 76 ∷ 77 ∷ 78 ∷ 79 ∷ 80 ∷ 81 ∷ 82 ∷ 83 ∷ 84 ∷ 85 ∷ 86 ∷ 87 ∷ 88 ∷ 89 ∷ 90 ∷ 45 ∷ []
 
 stand : Stand table 0

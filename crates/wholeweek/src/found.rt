@@ -46,7 +46,10 @@ impl fmt::Display for TagRead {
         let word = Word {
             letters: &self.word,
         };
-        write!(f, "  corrected: {wrong}, filled: {blank}\n  letters:{word}\n  marks: ")?;
+        write!(
+            f,
+            "  corrected: {wrong}, filled: {blank}\n  letters:{word}\n  marks: "
+        )?;
         for letter in &self.word {
             let mark = mark_of(*letter);
             write!(f, "{mark}")?;

@@ -8,7 +8,9 @@ mod saturday;
 
 use friday::read_found;
 use house::INKED;
-use inkedtag::{CELLS, ROWS, RefusedData, RefusedLine, ink, inspect_cells, inspect_line, noted_cells};
+use inkedtag::{
+    CELLS, ROWS, RefusedData, RefusedLine, ink, inspect_cells, inspect_line, noted_cells,
+};
 use saturday::file_tag;
 use traylines::print_lines;
 

@@ -1,5 +1,10 @@
-use Rattle.wholeweek.proofs.MarkTable.{mark_at}
+use Rattle.std.proofs.Common.{rules, ◌≡◌, get_or, ap, ◌∙◌}
+use Rattle.lines.specs.Marks.{cell_of_mark}
+use Rattle.wholeweek.proofs.MarkTable.{mark_at, table}
 use Rattle.wholeweek.proofs.marks.mark_of.Goals as goal
 
 pub returns : goal.returns
-returns c h = mark_at c.args.letter _ h
+unfolding table
+returns c h =
+    let found : c.unwrap_or.result ≡ get_or table c.args.letter 63 = search rules in
+    ap cell_of_mark found ∙ mark_at c.args.letter 63 h
