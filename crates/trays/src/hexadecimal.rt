@@ -17,10 +17,5 @@ pub(crate) fn decode(heap: Global, text: &str) -> Result<Vec<u8>, AllocError> {
 fn digit_of(c: u8) -> u8
     ensures { result < 16 }
 {
-    match c {
-        b'0'..=b'9' => c - b'0',
-        b'A'..=b'F' => c - b'A' + 10,
-        b'a'..=b'f' => c - b'a' + 10,
-        _ => 0,
-    }
+    char::from(c).to_digit(16).unwrap_or(0) as u8
 }
