@@ -8,6 +8,8 @@ ghost use Rattle.reading.specs.Erasing.{erased};
 use codes::{Card, Cell, add_powers};
 use fields::{Field, LetteredField};
 
+// Cells and sums change turn by turn, so no struct can keep that they fit: each contract says it, as `long` and `summed`.
+
 // Makes the cells blank whose locator is a root of the polynomial, and takes their letters' parts out of the sums.
 pub fn erase_roots<F: LetteredField>(
     card: &Card<F>,
