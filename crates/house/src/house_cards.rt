@@ -79,12 +79,12 @@ fn row_card<F: LetteredField + Drop>(field: F, row: HouseRow) -> Card<F>
 // `first` and the numbers that follow it.
 fn counting_from(first: u32, cells: usize) -> ArrayVec<u32, LARGEST_CELLS>
     requires few { cells ≤ largest_cells }
-    requires small { first + cells < 2 ^ 32 }
+    requires small { first + cells ≤ 2 ^ 32 }
     ensures { result.items ≡ range_with_len first cells }
 {
     let mut numbers = ArrayVec::new();
-    for number in first..first + cells as u32 {
-        numbers.push(number);
+    for j in 0..cells as u32 {
+        numbers.push(first + j);
     }
     numbers
 }

@@ -22,9 +22,6 @@ times_x-requires c = record {
 pub overflow_shr-x : goal.overflow_shr-x
 overflow_shr-x c = omega (arith, degree_below c.args.f c.args.degree 32 c.requires.modulus c.ranges.f.fits)
 
-pub overflow_mul-x : goal.overflow_mul-x
-overflow_mul-x c = record { fits = omega (arith, mul-le-mul_right c.args.b (and_le_r (c.args.a / 2 ^ (c.loop-i.i - 1)) 1), one-mul c.args.b, c.ranges.b.fits) }
-
 pub loop-i-preserved : goal.loop-i-preserved
 loop-i-preserved c =
     let (a, b, f, k, i) : ℕ × ℕ × ℕ × ℕ × ℕ = (c.args.a, c.args.b, c.args.f, c.args.degree, c.loop-i.i) in

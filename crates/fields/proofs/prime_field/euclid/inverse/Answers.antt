@@ -3,18 +3,6 @@ use native.Mathlib.Nat.{mod_self, zero-mod}
 use Rattle.fields.proofs.Euclid.{Common, common_step, euclid_step, last_is_one, last_inverts}
 use Rattle.fields.proofs.prime_field.euclid.inverse.Goals as goal
 
-pub loop-v-init : goal.loop-v-init
-loop-v-init c =
-    let two = c.requires.prime.two in (
-      omega arith,
-      omega arith,
-      omega arith,
-      omega arith,
-      mod_self _ ∙ sym (zero-mod _) ∙ ap (λ x. x % c.args.p) (sym (zero-mul _)),
-      ap (λ x. x % c.args.p) (sym (one-mul _)),
-      λ d at_p at_a. (at_p, at_a),
-    )
-
 pub loop-v-preserved : goal.loop-v-preserved
 loop-v-preserved c =
     let inv = c.loop-v.invariant in
