@@ -1,5 +1,7 @@
 -- The house rows keep every rule of a card. Assumes nothing.
 use Rattle.std.proofs.Common.{◌≡◌, ℕ, zero, suc, refl, arith, lit≤, rules}
+use mathlib.Core.Path.{subst⁻¹}
+use Rattle.house.specs.declared.house_rows.HouseRow.{HouseRow}
 use Rattle.fields.specs.Modulo.{Listed, stands_in}
 use Rattle.fields.specs.ListedPrimes.{listed_prime}
 use Rattle.fields.specs.PrimeModulus.{listed_laws, whole_alphabet}
@@ -59,9 +61,13 @@ punched_row = record {
 pub ruleset all_rows = (engraved_row, inked_row, punched_row)
 
 -- every house row is of its kind
-pub house_row_kinds : (n : ℕ) → IsHouseNumber n → ((house_row n).kind ≡ Prime → PrimeRow (house_row n)) × ((house_row n).kind ≡ Binary → BinaryRow (house_row n))
+house_row_kinds : (n : ℕ) → IsHouseNumber n → ((house_row n).kind ≡ Prime → PrimeRow (house_row n)) × ((house_row n).kind ≡ Binary → BinaryRow (house_row n))
 house_row_kinds zero is = absurd (omega (arith, is.0))
 house_row_kinds (suc zero) is = (λ e. absurd (cc e), λ e. engraved_row)
 house_row_kinds (suc (suc zero)) is = (λ e. inked_row, λ e. absurd (cc e))
 house_row_kinds (suc (suc (suc zero))) is = (λ e. absurd (cc e), λ e. punched_row)
 house_row_kinds (suc (suc (suc (suc n)))) is = absurd (omega (arith, is.1))
+
+-- a row that was found keeps the rules of its kind
+pub row_kinds : (n : ℕ) (row : HouseRow) → IsHouseNumber n × (row ≡ house_row n) → (row.kind ≡ Prime → PrimeRow row) × (row.kind ≡ Binary → BinaryRow row)
+row_kinds n row (is, found) = subst⁻¹ (λ (r : HouseRow). (r.kind ≡ Prime → PrimeRow r) × (r.kind ≡ Binary → BinaryRow r)) found (house_row_kinds n is)

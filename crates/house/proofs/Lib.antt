@@ -1,2 +1,3 @@
 pub mod HouseModuli
 pub mod HouseRows
+pub mod MadeFields

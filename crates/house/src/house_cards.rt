@@ -5,7 +5,7 @@ ghost use Rattle.algebra.specs.Limits.{largest_cells};
 ghost use Rattle.codes.specs.Cards.{card_code};
 ghost use Rattle.codes.specs.Checked.{Checked};
 ghost use Rattle.house.specs.HouseRows.{row_code, rule_multipliers, engraved, inked, punched};
-ghost use Rattle.house.specs.HouseCards.{PrimeRow, BinaryRow, PrimeCardOf, BinaryCardOf, HouseCardMade};
+ghost use Rattle.house.specs.HouseCards.{PrimeCardOf, BinaryCardOf, HouseCardMade};
 
 use crate::house_rows::{
     ENGRAVED, HouseRefusal, HouseRow, INKED, MultiplierRule, PUNCHED, house_row,
@@ -21,41 +21,27 @@ pub fn house_card(number: u32) -> Result<AnyCard, HouseRefusal>
 {
     let row = house_row(number)?;
     Ok(match row.kind {
-        FieldKind::Prime => AnyCard::Prime(prime_card(row)),
-        FieldKind::Binary => AnyCard::Binary(binary_card(row)),
+        FieldKind::Prime => AnyCard::Prime(row_card(PrimeField::new(row.origin).unwrap(), row)),
+        FieldKind::Binary => AnyCard::Binary(row_card(BinaryField::new(row.origin).unwrap(), row)),
     })
 }
 
 pub fn engraved_card() -> Card<BinaryField>
     ensures { BinaryCardOf engraved result }
 {
-    binary_card(ENGRAVED)
+    row_card(BinaryField::new(ENGRAVED.origin).unwrap(), ENGRAVED)
 }
 
 pub fn inked_card() -> Card<PrimeField>
     ensures { PrimeCardOf inked result }
 {
-    prime_card(INKED)
+    row_card(PrimeField::new(INKED.origin).unwrap(), INKED)
 }
 
 pub fn punched_card() -> Card<BinaryField>
     ensures { BinaryCardOf punched result }
 {
-    binary_card(PUNCHED)
-}
-
-fn prime_card(row: HouseRow) -> Card<PrimeField>
-    requires { PrimeRow row }
-    ensures { PrimeCardOf row result }
-{
-    row_card(PrimeField::new(row.origin).unwrap(), row)
-}
-
-fn binary_card(row: HouseRow) -> Card<BinaryField>
-    requires { BinaryRow row }
-    ensures { BinaryCardOf row result }
-{
-    row_card(BinaryField::new(row.origin).unwrap(), row)
+    row_card(BinaryField::new(PUNCHED.origin).unwrap(), PUNCHED)
 }
 
 // The card with the row's values. Over this field they break no rule, so the check grants it.

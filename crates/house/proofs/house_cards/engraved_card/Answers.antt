@@ -1,6 +1,18 @@
-use Rattle.std.proofs.Common.{rules}
-use Rattle.house.proofs.HouseRows.{all_rows}
+use Rattle.std.proofs.Common.{subst, rules}
+use Rattle.fields.specs.Binary.{BinaryFieldMade}
+use Rattle.house.specs.HouseRows.{engraved}
+use Rattle.house.proofs.HouseRows.{engraved_row}
+use Rattle.house.proofs.MadeFields.{over_binary}
 use Rattle.house.proofs.house_cards.engraved_card.Goals as goal
 
-pub binary_card-requires : goal.binary_card-requires
-binary_card-requires c = search (rules, all_rows)
+pub unwrap-requires : goal.unwrap-requires
+unwrap-requires c = let row = engraved_row in search rules
+
+pub row_card-requires : goal.row_card-requires
+row_card-requires c = let checked = over_binary engraved c.unwrap.result engraved_row (subst (BinaryFieldMade engraved.origin) c.unwrap.ensures c.new.ensures) in search rules
+
+pub returns : goal.returns
+returns c =
+    let row = engraved_row in
+    let checked = over_binary engraved c.unwrap.result engraved_row (subst (BinaryFieldMade engraved.origin) c.unwrap.ensures c.new.ensures) in
+    search rules

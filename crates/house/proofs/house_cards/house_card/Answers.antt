@@ -1,16 +1,22 @@
-use Rattle.std.proofs.Common.{sym, ap, ◌∙◌}
-use mathlib.Core.Path.{subst⁻¹}
-use Rattle.house.specs.HouseCards.{PrimeRow, BinaryRow}
-use Rattle.house.specs.declared.house_rows.HouseRow.{HouseRow}
-use Rattle.house.proofs.HouseRows.{house_row_kinds}
+use Rattle.std.proofs.Common.{subst, rules}
+use Rattle.fields.specs.Prime.{PrimeFieldMade}
+use Rattle.fields.specs.Binary.{BinaryFieldMade}
+use Rattle.house.proofs.HouseRows.{row_kinds}
+use Rattle.house.proofs.MadeFields.{over_prime, over_binary}
 use Rattle.house.proofs.house_cards.house_card.Goals as goal
 
-pub prime_card-requires : goal.prime_card-requires
-prime_card-requires c =
-    let found = c.in_ok-row.ensures in
-    subst⁻¹ PrimeRow found.1 ((house_row_kinds _ found.0).0 (ap (λ (row : HouseRow). row.kind) (sym found.1) ∙ c.in-Prime.is))
+pub unwrap-requires : goal.unwrap-requires
+unwrap-requires c = let row = (row_kinds c.args.number c.in_ok-row.row c.in_ok-row.ensures).0 c.in-Prime.is in search rules
 
-pub binary_card-requires : goal.binary_card-requires
-binary_card-requires c =
-    let found = c.in_ok-row.ensures in
-    subst⁻¹ BinaryRow found.1 ((house_row_kinds _ found.0).1 (ap (λ (row : HouseRow). row.kind) (sym found.1) ∙ c.in-Binary.is))
+pub row_card-requires-clause-checked : goal.row_card-requires-clause-checked
+row_card-requires-clause-checked c =
+    let row = c.in_ok-row.row in
+    over_prime row c.unwrap.result ((row_kinds c.args.number row c.in_ok-row.ensures).0 c.in-Prime.is) (subst (PrimeFieldMade row.origin) c.unwrap.ensures c.new.ensures)
+
+pub unwrap-requires-in-Binary : goal.unwrap-requires-in-Binary
+unwrap-requires-in-Binary c = let row = (row_kinds c.args.number c.in_ok-row.row c.in_ok-row.ensures).1 c.in-Binary.is in search rules
+
+pub row_card-requires-in-Binary-clause-checked : goal.row_card-requires-in-Binary-clause-checked
+row_card-requires-in-Binary-clause-checked c =
+    let row = c.in_ok-row.row in
+    over_binary row c.unwrap-in-Binary.result ((row_kinds c.args.number row c.in_ok-row.ensures).1 c.in-Binary.is) (subst (BinaryFieldMade row.origin) c.unwrap-in-Binary.ensures c.new-in-Binary.ensures)

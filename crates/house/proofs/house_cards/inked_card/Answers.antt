@@ -1,6 +1,18 @@
-use Rattle.std.proofs.Common.{rules}
-use Rattle.house.proofs.HouseRows.{all_rows}
+use Rattle.std.proofs.Common.{subst, rules}
+use Rattle.fields.specs.Prime.{PrimeFieldMade}
+use Rattle.house.specs.HouseRows.{inked}
+use Rattle.house.proofs.HouseRows.{inked_row}
+use Rattle.house.proofs.MadeFields.{over_prime}
 use Rattle.house.proofs.house_cards.inked_card.Goals as goal
 
-pub prime_card-requires : goal.prime_card-requires
-prime_card-requires c = search (rules, all_rows)
+pub unwrap-requires : goal.unwrap-requires
+unwrap-requires c = let row = inked_row in search rules
+
+pub row_card-requires : goal.row_card-requires
+row_card-requires c = let checked = over_prime inked c.unwrap.result inked_row (subst (PrimeFieldMade inked.origin) c.unwrap.ensures c.new.ensures) in search rules
+
+pub returns : goal.returns
+returns c =
+    let row = inked_row in
+    let checked = over_prime inked c.unwrap.result inked_row (subst (PrimeFieldMade inked.origin) c.unwrap.ensures c.new.ensures) in
+    search rules

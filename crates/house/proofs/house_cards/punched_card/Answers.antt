@@ -1,6 +1,18 @@
-use Rattle.std.proofs.Common.{rules}
-use Rattle.house.proofs.HouseRows.{all_rows}
+use Rattle.std.proofs.Common.{subst, rules}
+use Rattle.fields.specs.Binary.{BinaryFieldMade}
+use Rattle.house.specs.HouseRows.{punched}
+use Rattle.house.proofs.HouseRows.{punched_row}
+use Rattle.house.proofs.MadeFields.{over_binary}
 use Rattle.house.proofs.house_cards.punched_card.Goals as goal
 
-pub binary_card-requires : goal.binary_card-requires
-binary_card-requires c = search (rules, all_rows)
+pub unwrap-requires : goal.unwrap-requires
+unwrap-requires c = let row = punched_row in search rules
+
+pub row_card-requires : goal.row_card-requires
+row_card-requires c = let checked = over_binary punched c.unwrap.result punched_row (subst (BinaryFieldMade punched.origin) c.unwrap.ensures c.new.ensures) in search rules
+
+pub returns : goal.returns
+returns c =
+    let row = punched_row in
+    let checked = over_binary punched c.unwrap.result punched_row (subst (BinaryFieldMade punched.origin) c.unwrap.ensures c.new.ensures) in
+    search rules
