@@ -1,6 +1,6 @@
 -- Cells and their numbers. Assumes nothing.
-use Rattle.std.proofs.Common.{◌≡◌, ℕ, zero, suc, ◌+◌, ◌<◌, ◌≤◌, List, [], ◌∷◌, ◌++◌, map, length, get_or, take, set, sym, refl, ap, ◌∙◌, subst, ap₂, add-one, arith}
-use Rattle.std.proofs.lemmas.List.{length-map, get_or-map, take_more_set, map_more}
+use Rattle.std.proofs.Common.{◌≡◌, ℕ, zero, suc, ◌<◌, ◌≤◌, List, [], ◌∷◌, map, length, get_or, sym, refl, ap, ◌∙◌, subst, ap₂, add-one, arith}
+use Rattle.std.proofs.lemmas.List.{length-map, get_or-map}
 use Rattle.codes.specs.Cells.{blank_cell}
 use Rattle.codes.specs.Verdicts.{Lettered, BelowIfNoted}
 use Rattle.codes.specs.declared.cell.Cell.{Cell}
@@ -33,13 +33,6 @@ cells_in n letters vs body are count up = record {
   small = subst Small (sym (numbers_of_cells_of vs)) are.small;
   written = are.bytes_are ∙ ap numbers (sym (numbers_of_cells_of vs));
 }
-
--- one cell more
-pub cells_more : (cells : List Cell) (values : List ℕ) (cell : Cell) (j : ℕ) → j < length cells → j < length values →
-    cell ≡ cell_of_number (get_or values j 0) → take j cells ≡ cells_of (take j values) →
-    take (j + 1) (set cells j cell) ≡ cells_of (take (j + 1) values)
-cells_more cells values cell j within within-2 is so_far =
-    take_more_set cells j cell within ∙ ap₂ (λ (l : List Cell) (x : Cell). l ++ x ∷ []) so_far is ∙ sym (map_more cell_of_number values j 0 within-2)
 
 -- the same cells, by equal names
 pub cells_renamed : {n m letters size : ℕ} {body : List ℕ} {found cells : List Cell} → CellsIn n letters body found → n ≡ m → letters ≡ size → cells ≡ found →

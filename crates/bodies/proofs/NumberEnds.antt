@@ -1,28 +1,12 @@
 -- Lists of numbers that end where the body ends. Assumes nothing.
-use Rattle.std.proofs.Common.{◌≡◌, ℕ, ◌+◌, ◌<◌, ◌≤◌, List, ◌++◌, length, drop, sym, ap, ◌∙◌, subst, inl, inr, ⊎_elim, arith}
-use Rattle.std.proofs.lemmas.List.{append-nil, length-append, length-drop, drop_all}
+use Rattle.std.proofs.Common.{◌≡◌, ℕ, ◌+◌, ◌<◌, List, ◌++◌, length, drop, sym, ap, ◌∙◌, subst, inl, inr, ⊎_elim, arith}
+use Rattle.std.proofs.lemmas.List.{length-append}
 use Rattle.numbers.specs.NumberReading.{EndsInside, NoNumber}
 use Rattle.faults.specs.declared.body_fault.BodyFault.{BodyFault}
 use Rattle.faults.specs.declared.body_fault.BodyFault.TheVariants.{BadNumber, BadBody, BadNote, Field, Card, Tag}
 use Rattle.bodies.specs.NumberLists.{numbers, after, Begins, Stops, NumberMissing}
 use Rattle.bodies.specs.WholeLists.{GoesOn, ListRefused, Are}
 use Rattle.bodies.proofs.NumberLists.{from_end, numbers_append, small_append, length_numbers_append, after_append, begins_append}
-
-pub goes_on : (vs body : List ℕ) (start end wanted : ℕ) → Begins vs (drop start body) → end ≡ start + length (numbers vs) → length vs ≡ wanted →
-    end < length body → GoesOn wanted (drop start body)
-goes_on vs body start end wanted begins is all more = record {
-  values = vs;
-  begins = begins;
-  all = all;
-  more = omega (arith, ap length (from_end vs body start end is), length-drop end body);
-}
-
-pub are_all : (vs body : List ℕ) (start end : ℕ) → Begins vs (drop start body) → end ≡ start + length (numbers vs) → length body ≤ end →
-    Are vs (drop start body)
-are_all vs body start end begins is over = record {
-  small = begins.small;
-  bytes_are = begins.front ∙ ap (λ (l : List ℕ). numbers vs ++ l) (sym (from_end vs body start end is) ∙ drop_all end body over) ∙ append-nil (numbers vs);
-}
 
 -- a number that is missing in the first of two lists
 pub missing_first : (start count : ℕ) (bytes : List ℕ) (fault : BodyFault) → NumberMissing start count bytes fault → ListRefused start (count + count) bytes fault

@@ -57,14 +57,6 @@ after_cells (AfterNote shape) next card body last f =
     let done = subst (λ (t : Task). Done t body next) (sym is) f.done in
     ((shape, last, done.0), subst (λ (t : Turn). LastCard t card) (sym done.1) last)
 
-pub after_note : (turn next : Turn) (card body : List ℕ) → LastCard turn card → Follows turn (entry kind.Note body) next → LastCard next card
-after_note Start next card body last f = let none : ◌≡◌ {A = ℕ} 0 1 = cc f.in_turn in absurd (omega arith)
-after_note (InTurn shape) next card body last f =
-    let is : task.Note shape ≡ f.task = cc f.in_turn in
-    let done = subst (λ (t : Task). Done t body next) (sym is) f.done in
-    subst (λ (t : Turn). LastCard t card) (sym done.1) last
-after_note (AfterNote shape) next card body last f = let none : ◌≡◌ {A = ℕ} 0 1 = cc f.in_turn in absurd (omega arith)
-
 -- cells that have a body are not refused
 cells_never : (code : Code) (body : List ℕ) (cells : List Cell) (fault : BodyFault) → CellsIn (length code.locators) code.letters body cells → CellsRefused (length code.locators) code.letters body fault → ⊥
 cells_never code body cells fault is refused =

@@ -1,10 +1,7 @@
 -- A record's bytes put into a buffer. Assumes nothing.
-use Rattle.std.proofs.Common.{◌≡◌, ℕ, ◌+◌, ◌≤◌, List, ◌++◌, length, ap, ◌∙◌, subst, arith, lit≤}
+use Rattle.std.proofs.Common.{◌≡◌, ℕ, ◌+◌, ◌≤◌, List, ◌++◌, length, ap, ◌∙◌, subst, arith}
 use Rattle.std.proofs.lemmas.List.{append_assoc, length-append}
-use Rattle.numbers.specs.Numbers.{largest_number, number_bytes}
-use Rattle.trayfile.specs.Kinds.{kind_number}
-use Rattle.trayfile.specs.declared.kind.Kind.{Kind}
-use Rattle.trayfile.specs.declared.kind.Kind.TheVariants.{Card, Cells, Note}
+use Rattle.numbers.specs.Numbers.{number_bytes}
 use Rattle.numbers.specs.NumberWriting.{put_at}
 use Rattle.trayfile.specs.Entries.{record_bytes}
 use Rattle.traywriter.specs.Writing.{record_header, Put}
@@ -29,11 +26,6 @@ record_put kind size body before after end is room put place =
       bytes = put ∙ ap (λ (l : List ℕ). put_at 0 l before) whole ∙ put_front (record_bytes kind body) before;
       size = place ∙ long;
     }
-
-pub kind_small : (kind : Kind) → kind_number kind ≤ largest_number
-kind_small Card = lit≤ tt
-kind_small Cells = lit≤ tt
-kind_small Note = lit≤ tt
 
 pub header_long : (kind size : ℕ) → length (record_header kind size) ≡ length (number_bytes kind) + length (number_bytes size)
 header_long kind size = length-append (number_bytes kind) (number_bytes size)

@@ -15,11 +15,8 @@ impl<'a> TrayReader<'a> {
     pub fn new(file: &'a [u8]) -> TrayReader<'a>
         ensures { Opened file.now result }
     {
-        let fault = if file.len() > LONGEST_FILE {
-            Some(file_fault(0, FileCause::LongFile))
-        } else {
-            None
-        };
+        let too_long = file_fault(0, FileCause::LongFile);
+        let fault = (file.len() > LONGEST_FILE).then_some(too_long);
         TrayReader {
             file,
             place: 0,
