@@ -33,11 +33,11 @@ pub struct Combination<'a> {
     pub d: usize,
     pub q: &'a Poly,
     pub degree: usize,
+    ghost small: { degree < coefficients },
 }
 
 impl<'a> Combination<'a> {
     pub fn over<F: Field>(&self, field: &F) -> Poly
-        requires { self.now.degree < coefficients }
         ensures { result ≡ combined (F.Field.meaning field.now).arithmetic self.now.a self.now.p.now self.now.b self.now.d self.now.q.now self.now.degree }
     {
         Poly {
@@ -47,7 +47,6 @@ impl<'a> Combination<'a> {
 
     // The coefficient of X^j.
     fn coefficient<F: Field>(&self, field: &F, j: usize) -> u32
-        requires { self.now.degree < coefficients }
         ensures { result ≡ cut self.now.degree (coefficient (F.Field.meaning field.now).arithmetic self.now.a self.now.p.now self.now.b self.now.d self.now.q.now) j }
     {
         if j > self.degree {

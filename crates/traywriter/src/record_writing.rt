@@ -53,6 +53,7 @@ fn list_length(list: &[u32]) -> usize
     ensures is { result ≡ length (numbers list.now) }
     ensures bound { result ≤ 3 * largest_cells }
 {
+    // `sum` would ask for the bound beforehand; the loop carries it.
     let mut size = 0;
     for value in list {
         size += number_length(*value);

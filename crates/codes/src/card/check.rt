@@ -14,7 +14,8 @@ use arrayvec::ArrayVec;
 use fields::{Field, LetteredField};
 
 impl<F: LetteredField + Drop> Card<F> {
-    // The card with these values, or the first rule that they break.
+    // The card with these values, or the first rule that they break. That the field is accepted is asked for here and is no law of
+    // the trait: a field type may have values that no maker checked.
     pub fn check(field: F, code: CodeRef<'_>) -> Result<Card<F>, CardCause>
         requires { F.Field.accepted field }
         ensures { CardMade (F.Field.meaning field) field (code_of code.entry) result }

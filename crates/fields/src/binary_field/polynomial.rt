@@ -3,7 +3,7 @@ ghost use Rattle.std.specs.Prelude.{◌≡◌, ℕ, ◌*◌, ◌^◌, ◌<◌};
 ghost use Rattle.fields.specs.CarrylessProduct.{◌⊗◌};
 ghost use Rattle.fields.specs.LongDivision.{Degree, remainder};
 
-// The degree of `a`, which is not 0.
+// The degree of `a`, which is not 0. A number and no `NonZero`: both inverses would have to wrap and unwrap it at every turn.
 pub fn degree_of(a: u32) -> u32
     requires { 0 < a }
     ensures degree { Degree a result }

@@ -17,6 +17,7 @@ use fields::LetteredField;
 use lines::{LineRefusal, read_line};
 use reading::{Counts, ReadRefusal, read_cells};
 
+// Each change says in `card` that the tag is still one of its card: a relation of both ends, which no invariant can hold.
 impl<'a, F: LetteredField> Tag<'a, F> {
     // A tag of the card, every cell blank.
     pub fn open(card: &'a Card<F>) -> Tag<'a, F>
