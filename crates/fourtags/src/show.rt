@@ -28,7 +28,7 @@ impl<'a> fmt::Display for EventLine<'a> {
     }
 }
 
-// What a granted read showed.
+// What a granted read showed: a part of the line and no value of its own.
 fn write_word<W: fmt::Write>(f: &mut fmt::Formatter<W>, event: Event<'_>) -> fmt::Result {
     if let Event::Read {
         length,

@@ -139,7 +139,8 @@ impl State {
     }
 }
 
-// f_0 × s_k + .. + f_m × s_(k+m), with m the degree.
+// f_0 × s_k + .. + f_m × s_(k+m), with m the degree. It adds from the lowest coefficient up, as the contract does for every field;
+// the sum over coefficients of `reading` adds from the highest down.
 fn apply<F: Field>(field: &F, f: &Poly, degree: usize, sequence: &[u32], k: usize) -> u32
     requires small { degree < coefficients }
     requires within { k + degree < length sequence.now }

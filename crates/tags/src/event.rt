@@ -26,7 +26,8 @@ pub enum Event<'a> {
         text: &'a str,
         answer: Result<(), LineRefusal>,
     },
-    // The read was lent the first `length` numbers of a fresh buffer, and this is the buffer after it.
+    // The read was lent the first `length` numbers of a fresh buffer, and this is the whole buffer after it, so that an event shows too
+    // what the read left alone.
     Read {
         length: usize,
         answer: Result<Counts, ReadRefusal>,

@@ -51,6 +51,7 @@ pub fn answer(heap: Global, line: &str) -> anyhow::Result<String> {
     }
 }
 
+// The number comes beside the refusal: each kind of refusal has a `number` of its own.
 fn refused(
     heap: Global,
     number: u32,

@@ -33,7 +33,7 @@ pub fn read_found(heap: Global, cells: &[Cell; CELLS]) -> anyhow::Result<TagRead
     Ok(TagRead { answer, word })
 }
 
-// A note for each noted cell, and a read.
+// A note for each noted cell, and a read. `vectors` has the like: the library allocates nothing, so a list of calls is a program's.
 fn calls_of(heap: Global, cells: &[Cell; CELLS]) -> Result<Vec<Call<'static>>, AllocError> {
     let mut calls = Vec::new(heap);
     for (j, cell) in cells.iter().enumerate() {
@@ -57,7 +57,10 @@ impl fmt::Display for TagRead {
                 let word = Word {
                     letters: &self.word,
                 };
-                write!(f, "it reads, with {wrong} wrong and {blank} blank:\n  letters:{word}")
+                write!(
+                    f,
+                    "it reads, with {wrong} wrong and {blank} blank:\n  letters:{word}"
+                )
             }
             Err(refusal) => {
                 let number = refusal.number();

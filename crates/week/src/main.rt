@@ -5,7 +5,9 @@ mod friday;
 
 use friday::read_found;
 use house::INKED;
-use inkedtag::{CELLS, ROWS, RefusedData, RefusedLine, ink, inspect_cells, inspect_line, noted_cells};
+use inkedtag::{
+    CELLS, ROWS, RefusedData, RefusedLine, ink, inspect_cells, inspect_line, noted_cells,
+};
 
 // The next line of the input, without its end.
 fn next_line(rt: &HostRuntime, input: &mut String) -> anyhow::Result<()> {

@@ -12,6 +12,7 @@ pub fn is_irreducible(f: u32) -> bool
         return false;
     }
     let limit = 2 << (degree_of(f) / 2);
+    // No `all`: of a range it tells a proof too little to name the divisor that was found.
     for divisor in 2..limit {
         if remainder_of(f, divisor) == 0 {
             return false;
