@@ -12,7 +12,7 @@ pub fn is_irreducible(f: u32) -> bool
         return false;
     }
     let limit = 2 << (degree_of(f) / 2);
-    // No `all`: of a range it tells a proof too little to name the divisor that was found.
+    // No `all`: its proof would take the test as a function of every number, and 0 divides nothing.
     for divisor in 2..limit {
         if remainder_of(f, divisor) == 0 {
             return false;
