@@ -3,7 +3,7 @@ ghost use Rattle.std.specs.Prelude.{◌≡◌, ℕ, Decides};
 ghost use Rattle.bodies.specs.CardHeads.{HeadRead, HeadShape};
 
 use crate::number_list::ListAt;
-use algebra::{LARGEST_CELLS, LARGEST_ROWS};
+use codes::sizes_fit;
 use faults::BodyFault;
 
 #[derive(Clone, Copy)]
@@ -52,10 +52,6 @@ impl CardHead {
     pub(crate) fn has_shape(self) -> bool
         ensures { Decides result (HeadShape self) }
     {
-        2 <= self.cells
-            && self.cells <= LARGEST_CELLS
-            && 1 <= self.rows
-            && self.rows <= LARGEST_ROWS
-            && self.rows < self.cells
+        sizes_fit(self.cells, self.rows)
     }
 }

@@ -15,6 +15,7 @@ pub enum CellsRefusal {
     Body(BodyFault),
 }
 
+// A case holds another fault, so the numbers cannot stand at the cases.
 impl CellsRefusal {
     pub fn number(self) -> u32
         ensures { result ≡ cells_refusal_number self }

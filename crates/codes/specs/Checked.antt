@@ -7,6 +7,14 @@ use Rattle.algebra.specs.Theorems.{Locators, Multipliers}
 use Rattle.algebra.specs.Limits.{largest_cells, largest_rows}
 use Rattle.codes.specs.Code.{Code}
 
+-- n is from 2 to the largest, and r is from 1 to the largest and below n
+pub record Sizes (cells rows : ℕ) : Type 0 where
+  pub two_cells : 2 ≤ cells
+  pub most_cells : cells ≤ largest_cells
+  pub one_row : 1 ≤ rows
+  pub most_rows : rows ≤ largest_rows
+  pub fewer_rows : rows < cells
+
 -- n is from 2 to the largest, r is from 1 to the largest and below n, and there are as many multipliers as locators
 pub record Shape (code : Code) : Type 0 where
   pub two_cells : 2 ≤ length code.locators

@@ -7,6 +7,7 @@ ghost use Rattle.codes.specs.CheckedOnce.{checked_prop};
 
 use algebra::LARGEST_CELLS;
 use arrayvec::ArrayVec;
+pub use check::sizes_fit;
 use fields::LetteredField;
 
 #[derive(Drop)]

@@ -13,7 +13,7 @@ mod verdict;
 mod word;
 
 pub use any_card::AnyCard;
-pub use card::Card;
+pub use card::{Card, sizes_fit};
 pub use card_cause::CardCause;
 pub use cell::Cell;
 pub use cell_row::CellRow;

@@ -20,6 +20,7 @@ pub enum Layer {
     File(FileCause),
 }
 
+// Each case holds a cause, so the numbers cannot stand at the cases.
 impl Layer {
     pub fn number(self) -> u32
         ensures { result ≡ layer_number self }

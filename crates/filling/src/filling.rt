@@ -55,7 +55,7 @@ pub fn write_letters<F: Field>(
         annihilator: &blank_annihilator(over.field, code.locators, cells),
         sums,
     };
-    // A chain on `iter_mut` tells a proof nothing of what is written, so the other lists are read at the index.
+    // A zip on `iter_mut` tells a proof nothing of what is written, so the other lists are read at the index.
     for (j, letter) in word.iter_mut().enumerate() {
         *letter = erasures.letter_of(cells[j], code.locators[j], code.multipliers[j]);
     }

@@ -48,7 +48,7 @@ fn letters_of(cells: &[Cell; DATA]) -> Result<[u32; DATA], DataRefusal>
     ensures { LettersOf cells.now result }
 {
     let mut letters = [0; DATA];
-    // By the place: of a zip with `iter_mut` a proof does not know what it wrote.
+    // In one pass, by the place: of a zip with `iter_mut` a proof does not know what it wrote.
     for (place, cell) in cells.iter().enumerate() {
         let Some(letter) = cell.letter else {
             return Err(DataRefusal::Blank { place });

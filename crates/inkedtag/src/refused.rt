@@ -3,7 +3,7 @@ ghost use Rattle.std.specs.Prelude.{◌≡◌, length};
 ghost use Rattle.std.specs.Str.{chars};
 
 use crate::monday::{DATA, DataRefusal};
-use lines::LineRefusal;
+use lines::{LineRefusal, count_marks};
 use std::error::Error;
 use std::fmt;
 
@@ -15,12 +15,6 @@ pub struct RefusedLine {
     pub marks: usize,
 }
 
-fn marks_in(line: &str) -> usize
-    ensures { result ≡ length (chars line.now) }
-{
-    line.chars().count()
-}
-
 impl RefusedLine {
     pub fn new(refusal: LineRefusal, wanted: usize, line: &str) -> RefusedLine
         ensures refusal { result.refusal ≡ refusal }
@@ -30,7 +24,7 @@ impl RefusedLine {
         RefusedLine {
             refusal,
             wanted,
-            marks: marks_in(line),
+            marks: count_marks(line),
         }
     }
 }
@@ -69,10 +63,8 @@ impl RefusedData {
         ensures refusal { result.refusal ≡ refusal }
         ensures marks { result.marks ≡ length (chars line.now) }
     {
-        RefusedData {
-            refusal,
-            marks: marks_in(line),
-        }
+        let marks = count_marks(line);
+        RefusedData { refusal, marks }
     }
 }
 

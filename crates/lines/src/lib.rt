@@ -4,5 +4,5 @@
 mod line;
 mod mark;
 
-pub use line::{LineRefusal, read_line};
+pub use line::{LineRefusal, count_marks, read_line};
 pub use mark::read_mark;

@@ -50,7 +50,8 @@ pub fn read_line(line: &str, letters: u32, cells: &mut [Cell]) -> Result<(), Lin
     Ok(())
 }
 
-fn count_marks(line: &str) -> usize
+// How many marks a line has.
+pub fn count_marks(line: &str) -> usize
     ensures { result ≡ length (chars line.now) }
 {
     line.chars().count()

@@ -43,9 +43,7 @@ pub fn part(file: &[u8], start: usize, end: usize) -> &[u8]
     requires within { end ≤ length file.now }
     ensures { result.now ≡ between start end file.now }
 {
-    let (front, _after) = file.split_at(end);
-    let (_before, body) = front.split_at(start);
-    body
+    &file[start..end]
 }
 
 // What is in turn after a record with this body.

@@ -8,7 +8,7 @@ use crate::word_read::WordRead;
 use trayfile::TrayReader;
 
 // What one record tells.
-#[derive(Drop)]
+#[derive(Clone, Drop)]
 pub enum Step {
     // A card or a note tells nothing.
     Silent,

@@ -4,7 +4,7 @@ use arrayvec::ArrayVec;
 use reading::Counts;
 
 // The word, and how many cells are wrong and how many blank.
-#[derive(Drop)]
+#[derive(Clone, Drop)]
 pub struct WordRead {
     pub counts: Counts,
     pub letters: ArrayVec<u32, LARGEST_CELLS>,

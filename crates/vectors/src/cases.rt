@@ -11,7 +11,7 @@ use pairs::realise;
 use std::alloc::Global;
 use tags::{Call, Event, play_script};
 
-// A case of a field: what is asked, the numbers after the field's, and what stands after the first ';'.
+// A case of a field, which stays beside it since some calls are lent it and some are given it: what is asked, the numbers after the field's, and what stands after the first ';'.
 #[derive(Clone, Copy)]
 struct Case<'a> {
     heap: Global,
@@ -220,7 +220,8 @@ fn read_case<F: LetteredField + Drop>(case: Case<'_>, field: F) -> anyhow::Resul
     }
 }
 
-// The calls that note the cells of a text, and a read into a buffer of `length` numbers.
+// The calls that note the cells of a text, and a read into a buffer of `length` numbers. `week` has the like: the library allocates
+// nothing, so a list of calls is a program's.
 fn note_calls(heap: Global, text: &str, length: usize) -> anyhow::Result<Vec<Call<'static>>> {
     let cells = read_cells(heap, text)?;
     let mut calls = Vec::new(heap);
@@ -277,9 +278,14 @@ fn line_case(heap: Global, argument: &str) -> anyhow::Result<String> {
             };
             Ok(format!(in heap; "line{row}")?)
         }
-        Err(LineRefusal::BadMark { place }) => Ok(format!(in heap;
-            "refused 28 bad mark at {place}"
-        )?),
-        Err(refusal) => refused(heap, refusal.number(), refusal),
+        Err(refusal) => {
+            let number = refusal.number();
+            match refusal {
+                LineRefusal::BadMark { place } => Ok(format!(in heap;
+                    "refused {number} {refusal} at {place}"
+                )?),
+                _ => refused(heap, number, refusal),
+            }
+        }
     }
 }

@@ -8,15 +8,18 @@ use std::alloc::{AllocError, Global};
 use std::fmt;
 use tags::{Call, Event, play_script};
 
-// What the read answered, and the word after it.
+// The word that the read showed, how many cells are wrong and how many blank.
 #[derive(Clone, Copy)]
 pub struct TagRead {
-    answer: Result<Counts, ReadRefusal>,
+    counts: Counts,
     word: [u32; CELLS],
 }
 
 // A freshly opened inked tag is noted with the cells and read.
-pub fn read_found(heap: Global, cells: &[Cell; CELLS]) -> anyhow::Result<TagRead> {
+pub fn read_found(
+    heap: Global,
+    cells: &[Cell; CELLS],
+) -> anyhow::Result<Result<TagRead, ReadRefusal>> {
     let card = inked_card();
     let calls = calls_of(heap, cells)?;
     let unused = Event::Wipe {
@@ -30,7 +33,7 @@ pub fn read_found(heap: Global, cells: &[Cell; CELLS]) -> anyhow::Result<TagRead
     };
     let mut word = [0; CELLS];
     word.copy_from_slice(&buffer[0..CELLS]);
-    Ok(TagRead { answer, word })
+    Ok(answer.map(|counts| TagRead { counts, word }))
 }
 
 // A note for each noted cell, and a read. `vectors` has the like: the library allocates nothing, so a list of calls is a program's.
@@ -50,22 +53,11 @@ fn calls_of(heap: Global, cells: &[Cell; CELLS]) -> Result<Vec<Call<'static>>, A
 
 impl fmt::Display for TagRead {
     fn fmt<W: fmt::Write>(&self, f: &mut fmt::Formatter<W>) -> fmt::Result {
-        match self.answer {
-            Ok(counts) => {
-                let wrong = counts.wrong;
-                let blank = counts.blank;
-                let word = Word {
-                    letters: &self.word,
-                };
-                write!(
-                    f,
-                    "it reads, with {wrong} wrong and {blank} blank:\n  letters:{word}"
-                )
-            }
-            Err(refusal) => {
-                let number = refusal.number();
-                write!(f, "it does not read: {number} {refusal}")
-            }
-        }
+        let wrong = self.counts.wrong;
+        let blank = self.counts.blank;
+        let word = Word {
+            letters: &self.word,
+        };
+        write!(f, "it reads, with {wrong} wrong and {blank} blank:\n  letters:{word}")
     }
 }

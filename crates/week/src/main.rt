@@ -9,7 +9,7 @@ use inkedtag::{
     CELLS, ROWS, RefusedData, RefusedLine, ink, inspect_cells, inspect_line, noted_cells,
 };
 
-// The next line of the input, without its end.
+// The next line of the input, without its end. `wholeweek` has the like, since only programs read input.
 fn next_line(rt: &HostRuntime, input: &mut String) -> anyhow::Result<()> {
     input.clear();
     rt.read_line(input)?;
@@ -30,7 +30,13 @@ fn run(rt: &HostRuntime) -> anyhow::Result<()> {
     let line = input.as_str().trim_end();
     let found = inspect_line(line).map_err(|refusal| RefusedLine::new(refusal, CELLS, line))?;
     println!(rt; "later, {line} is found:\n{found}")?;
-    rt.println(read_found(rt.alloc(), &found.cells)?)?;
+    match read_found(rt.alloc(), &found.cells)? {
+        Ok(read) => println!(rt; "{read}")?,
+        Err(refusal) => {
+            let number = refusal.number();
+            println!(rt; "it does not read: {number} {refusal}")?;
+        }
+    }
     Ok(())
 }
 

@@ -14,7 +14,7 @@ use inkedtag::{
 use saturday::file_tag;
 use traylines::print_lines;
 
-// The next line of the input, without its end.
+// The next line of the input, without its end. `week` has the like, since only programs read input.
 fn next_line(rt: &HostRuntime, input: &mut String) -> anyhow::Result<()> {
     input.clear();
     rt.read_line(input)?;

@@ -3,7 +3,7 @@ ghost use Rattle.std.specs.Prelude.{◌≡◌, ◌≤◌, length, take, Decides}
 ghost use Rattle.algebra.specs.Limits.{largest_cells};
 ghost use Rattle.codes.specs.Code.{Code, code_of};
 ghost use Rattle.codes.specs.Cards.{card_code, CardMade};
-ghost use Rattle.codes.specs.Checked.{Shape, LocatorsFit, MultipliersFit};
+ghost use Rattle.codes.specs.Checked.{Sizes, Shape, LocatorsFit, MultipliersFit};
 
 use crate::card::Card;
 use crate::card_cause::CardCause;
@@ -79,22 +79,25 @@ impl<F: LetteredField> Card<F> {
     }
 }
 
+// May a card have so many cells and rows?
+pub fn sizes_fit(cells: usize, rows: usize) -> bool
+    ensures { Decides result (Sizes cells rows) }
+{
+    2 <= cells && cells <= LARGEST_CELLS && 1 <= rows && rows <= LARGEST_ROWS && rows < cells
+}
+
 fn has_shape(code: CodeRef<'_>) -> bool
     ensures { Decides result (Shape (code_of code.entry)) }
 {
     let cells = code.locators.len();
-    2 <= cells
-        && cells <= LARGEST_CELLS
-        && 1 <= code.rows
-        && code.rows <= LARGEST_ROWS
-        && code.rows < cells
-        && code.multipliers.len() == cells
+    sizes_fit(cells, code.rows) && code.multipliers.len() == cells
 }
 
 fn distinct_elements<F: Field>(field: &F, locators: &[u32]) -> bool
     ensures { Decides result (LocatorsFit (F.Field.meaning field.now) locators.now) }
 {
     let size = field.size();
+    // No `all`: each turn looks at the places before its own.
     for (j, locator) in locators.iter().enumerate() {
         if *locator >= size {
             return false;

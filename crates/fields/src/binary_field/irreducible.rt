@@ -12,7 +12,8 @@ pub fn is_irreducible(f: u32) -> bool
         return false;
     }
     let limit = 2 << (degree_of(f) / 2);
-    // No `all`: its proof would take the test as a function of every number, and 0 divides nothing.
+    // Tried by `all`, and the proof did not close: it takes the test as a function of the divisor, and a remainder is one only of divisors
+    // that have a degree.
     for divisor in 2..limit {
         if remainder_of(f, divisor) == 0 {
             return false;

@@ -3,13 +3,14 @@ ghost use Rattle.std.specs.Prelude.{◌≡◌, ℕ, ◌*◌, ◌^◌, ◌<◌};
 ghost use Rattle.fields.specs.CarrylessProduct.{◌⊗◌};
 ghost use Rattle.fields.specs.LongDivision.{Degree, remainder};
 
-// The degree of `a`, which is not 0. A number and no `NonZero`: both inverses would have to wrap and unwrap it at every turn.
+// The degree of `a`, which is not 0. A number and no `NonZero`: callers know it from a test or a clause, and would have
+// to wrap it at each call.
 pub fn degree_of(a: u32) -> u32
     requires { 0 < a }
     ensures degree { Degree a result }
     ensures below { result < 32 }
 {
-    31 - a.leading_zeros()
+    a.ilog2()
 }
 
 // X times `x` modulo `f`.

@@ -15,7 +15,7 @@ use filling::{Polynomial, blank_annihilator};
 use pairs::realise;
 
 impl<'a, F: LetteredField> FoundCells<'a, F> {
-    // Writes the error locator into `locator`, and answers its degree. `sums` has the syndromes of the cells.
+    // Writes the error locator into `locator`, as `realise` writes it, and answers its degree. `sums` has the syndromes of the cells.
     pub fn error_locator(&self, sums: &[u32], locator: &mut [u32]) -> usize
         requires summed { sums.now ≡ syndromes (F.Field.meaning self.now.card.now.field).arithmetic (card_code self.now.card.now) self.now.cells.now }
         requires room { length locator.old ≡ coefficients }
@@ -44,7 +44,8 @@ fn modified_sums<F: Field>(field: &F, product: &Polynomial, sums: &[u32], modifi
     }
 }
 
-// The sum of coefficient i × sum i, over all coefficients.
+// The sum of coefficient i × sum i, over all coefficients. It adds from the highest down, as its definition does for every field; the
+// sum of `pairs` adds from the lowest up.
 fn apply<F: Field>(field: &F, product: &Polynomial, sums: &[u32]) -> u32
     requires { degree_of product.now < length sums.now }
     ensures { result ≡ act (F.Field.meaning field.now).arithmetic (coefficients_of product.now) (number_at sums.now) 0 }

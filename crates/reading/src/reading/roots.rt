@@ -24,7 +24,7 @@ pub fn erase_roots<F: LetteredField>(
 {
     let field = card.field();
     let code = card.code();
-    // A chain on `iter_mut` tells a proof nothing of what is written, so the other lists are read at the index.
+    // A zip on `iter_mut` tells a proof nothing of what is written, so the other lists are read at the index.
     for (j, cell) in cells.iter_mut().enumerate() {
         if let Some(letter) = cell.letter {
             if value_at(field, polynomial, code.locators[j]) == 0 {

@@ -32,7 +32,8 @@ impl<'a> TrayReader<'a> {
         self.place
     }
 
-    // The next record, nothing at the file's end, or a fault, which is repeated ever after.
+    // The next record, nothing at the file's end, or a fault, which is repeated ever after. No `Iterator`: a fault has no end, and the
+    // place is asked for between two records.
     pub fn next(&mut self) -> Option<Result<Record<'a>, Fault>>
         ensures step { Next self.old result self.new }
         ensures runs { EveryRun }

@@ -18,19 +18,6 @@ returns-in_err-read g c =
     let p = err_from_is_err_and c.from_residual.result c.from_residual.ensures.1 in
     rw (p.1, p.2) stop
 
-pub returns : goal.returns
-returns g c =
-    let m = g.F.Field.meaning c.args.field in
-    let head = c.args.read.head in
-    let stands = c.requires.stands in
-    let fits : HeadFits m head = record { shape = c.if-not-has_shape.ensures.0 refl; alphabet = c.if-not-admits.ensures.0 refl } in
-    let lists = c.in_ok-read.ensures in
-    let made = c.in_ok-check.ensures in
-    let code = code_with head.letters head.rows c.in_ok-read.read.locators.items c.in_ok-read.read.multipliers.items in
-    let values = values_are m head c.args.body.now stands.begins c.args.read.end stands.end fits code refl refl lists.1 lists.2 lists.0 in
-    let is = made.1 ∙ ap₂ (code_with head.letters head.rows) c.as_slice.ensures.value c.as_slice-2.ensures.value in
-    (made.0, subst⁻¹ (Checked m) made.1 made.2, subst⁻¹ (λ (k : Code). c.args.body.now ≡ card_body head.kind head.origin k) is values.written)
-
 pub returns-in_err-check : goal.returns-in_err-check
 returns-in_err-check g c =
     let m = g.F.Field.meaning c.args.field in

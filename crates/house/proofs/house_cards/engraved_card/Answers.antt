@@ -10,9 +10,3 @@ unwrap-requires c = let row = engraved_row in search rules
 
 pub row_card-requires : goal.row_card-requires
 row_card-requires c = let checked = over_binary engraved c.unwrap.result engraved_row (subst (BinaryFieldMade engraved.origin) c.unwrap.ensures c.new.ensures) in search rules
-
-pub returns : goal.returns
-returns c =
-    let row = engraved_row in
-    let checked = over_binary engraved c.unwrap.result engraved_row (subst (BinaryFieldMade engraved.origin) c.unwrap.ensures c.new.ensures) in
-    search rules

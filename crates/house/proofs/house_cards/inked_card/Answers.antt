@@ -10,9 +10,3 @@ unwrap-requires c = let row = inked_row in search rules
 
 pub row_card-requires : goal.row_card-requires
 row_card-requires c = let checked = over_prime inked c.unwrap.result inked_row (subst (PrimeFieldMade inked.origin) c.unwrap.ensures c.new.ensures) in search rules
-
-pub returns : goal.returns
-returns c =
-    let row = inked_row in
-    let checked = over_prime inked c.unwrap.result inked_row (subst (PrimeFieldMade inked.origin) c.unwrap.ensures c.new.ensures) in
-    search rules

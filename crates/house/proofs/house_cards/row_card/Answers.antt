@@ -22,9 +22,3 @@ pub counting_from-locators-requires : goal.counting_from-locators-requires
 counting_from-locators-requires g c =
     let checked = c.requires.checked in
     record { few = few_cells _ c.args.row checked; small = omega (arith, c.first.ensures, small_locators _ c.args.row checked) }
-
-pub multipliers_by-multipliers-requires : goal.multipliers_by-multipliers-requires
-multipliers_by-multipliers-requires g c =
-    let few = few_cells _ c.args.row c.requires.checked in
-    let long = length-range_with_len (rule_first c.args.row.locators) c.args.row.cells in
-    search rules

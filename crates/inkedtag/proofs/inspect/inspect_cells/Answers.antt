@@ -19,13 +19,6 @@ ok : (A : Arithmetic) (cells : List Cell) (after : List ℕ) (r : Result Verdict
 ok A cells after (Ok verdict) twenty e = refl
 ok A cells after (Err refusal) twenty e = absurd (e.1 (right_lengths cells twenty))
 
-pub unwrap-verdict-requires : goal.unwrap-verdict-requires
-unwrap-verdict-requires c =
-    let values = c.over.ensures.values ∙ c.inked_card-card.ensures.values in
-    let twenty : length c.args.cells ≡ 20 = search rules in
-    ok _ c.args.cells c.judge.new.row_sums c.judge.result twenty
-    (subst (λ (code : Code). Judgement (modulo c.over.result.field.now.prime) code c.args.cells (0 ∷ 0 ∷ 0 ∷ 0 ∷ 0 ∷ 0 ∷ 0 ∷ 0 ∷ []) c.judge.new.row_sums c.judge.result) values c.judge.ensures)
-
 pub returns : goal.returns
 returns c =
     let values = c.over.ensures.values ∙ c.inked_card-card.ensures.values in

@@ -3,11 +3,6 @@ use Rattle.std.proofs.lemmas.List.{ext_get_or, length-map, get_or-map}
 use Rattle.codes.specs.Cells.{blank_cell, noted, noted_cell}
 use Rattle.inkedtag.proofs.monday.letters_of.Goals as goal
 
-pub returns-in_default : goal.returns-in_default
-returns-in_default c =
-    let inv = c.loop-place.invariant in
-    record { within = search rules; blank = c.in_default.is; before = λ j h none. let z : ◌≡◌ {A = ℕ} 0 1 = cc (inv.1 j h) in omega arith }
-
 pub returns : goal.returns
 returns c =
     let cells = c.args.cells.now in

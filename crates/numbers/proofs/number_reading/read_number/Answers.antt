@@ -2,14 +2,8 @@ use Rattle.std.proofs.Common.{arith}
 use Rattle.numbers.proofs.ReadBytes.{read_one, read_two, read_three, cut_none, cut_one, cut_two, zero_last, third_zero, third_large}
 use Rattle.numbers.proofs.number_reading.read_number.Goals as goal
 
-pub returns-then-start-bytes : goal.returns-then-start-bytes
-returns-then-start-bytes c = cut_none c.args.bytes.now c.args.start (omega arith)
-
 pub returns-then-first-lt-GOES_ON : goal.returns-then-first-lt-GOES_ON
 returns-then-first-lt-GOES_ON c = read_one c.args.bytes.now c.args.start (omega arith) (omega arith)
-
-pub returns-then-start-bytes-2 : goal.returns-then-start-bytes-2
-returns-then-start-bytes-2 c = cut_one c.args.bytes.now c.args.start (omega arith) (omega arith) (omega arith)
 
 pub returns-then-ends_in_zero : goal.returns-then-ends_in_zero
 returns-then-ends_in_zero c = zero_last c.args.bytes.now c.args.start (omega arith) (omega arith) c.if-ends_in_zero.true
@@ -17,9 +11,6 @@ returns-then-ends_in_zero c = zero_last c.args.bytes.now c.args.start (omega ari
 pub returns-then-second-lt-GOES_ON : goal.returns-then-second-lt-GOES_ON
 returns-then-second-lt-GOES_ON c =
     read_two c.args.bytes.now c.args.start (omega arith) (omega arith) (omega arith) (omega arith) (omega arith)
-
-pub returns-then-start-bytes-3 : goal.returns-then-start-bytes-3
-returns-then-start-bytes-3 c = cut_two c.args.bytes.now c.args.start (omega arith) (omega arith) (omega arith) (omega arith)
 
 pub returns-then-third-eq0 : goal.returns-then-third-eq0
 returns-then-third-eq0 c = third_zero c.args.bytes.now c.args.start (omega arith) (omega arith) (omega arith) c.if-third-eq0.true

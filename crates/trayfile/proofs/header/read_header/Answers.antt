@@ -38,11 +38,3 @@ returns-then-file-body c =
     inr (inr (inr (inr (no_body c.args.turn c.args.place c.args.file.now c.in_ok-kind.kind c.in_ok-task.task c.in_ok-kind_read.kind_read.value
     c.in_ok-kind_read.kind_read.end first.0 first.1 (named _ c.in_ok-kind.kind _ c.try_from.result c.try_from.ensures (λ e never. never) c.in_ok-kind.ensures.cases) (sym c.in_ok-task.ensures.ok_part ∙ c.task_of.ensures)
     c.in_ok-length.length.value c.in_ok-length.length.end sized.0 sized.1 _ c.if-file-body.true c.file_fault.ensures))))
-
-pub returns : goal.returns
-returns c =
-    let first = c.in_ok-kind_read.ensures in
-    let sized = c.in_ok-length.ensures in
-    header_in c.args.turn c.args.place c.args.file.now c.in_ok-kind.kind c.in_ok-task.task c.in_ok-kind_read.kind_read.value
-    c.in_ok-kind_read.kind_read.end first.0 first.1 (named _ c.in_ok-kind.kind _ c.try_from.result c.try_from.ensures (λ e never. never) c.in_ok-kind.ensures.cases) (sym c.in_ok-task.ensures.ok_part ∙ c.task_of.ensures)
-    c.in_ok-length.length.value c.in_ok-length.length.end sized.0 sized.1 c.if-file-body.false

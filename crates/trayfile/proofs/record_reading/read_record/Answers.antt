@@ -21,14 +21,6 @@ fits task body start (Field cause) refused room = tt
 fits task body start (Card cause) refused room = tt
 fits task body start (Tag cause) refused room = tt
 
-pub placed_body-requires : goal.placed_body-requires
-placed_body-requires c =
-    let h = c.in_ok-header.ensures in
-    let header = c.in_ok-header.header in
-    let long = ap length c.part.ensures ∙ body_long _ _ _ _ h in
-    let last = within _ _ _ _ h in
-    fits header.task c.part.result.now header.body c.in-Err.fault c.in-Err.ensures (omega (arith, h.end_place))
-
 pub returns-in-Ok : goal.returns-in-Ok
 returns-in-Ok c =
     let h = c.in_ok-header.ensures in

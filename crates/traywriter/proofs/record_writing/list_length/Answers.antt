@@ -18,12 +18,3 @@ loop-value-preserved c =
     let one = c.number_length-size.ensures in
     let more = length_more list j (omega arith) in
     (omega (arith, inv.0), omega (arith, inv.1, three_at_most (get_or list j 0)))
-
-pub returns : goal.returns
-returns c =
-    let list = c.args.list.now in
-    let inv = c.loop-value.invariant in
-    record {
-      is = inv.0 ∙ ap (λ (l : List ℕ). length (numbers l)) (take_all c.loop-value.value-index list (omega arith));
-      bound = omega (arith, inv.1, c.requires);
-    }

@@ -12,9 +12,3 @@ overflow_add-result c =
 pub overflow_add-result-2 : goal.overflow_add-result-2
 overflow_add-result-2 c =
     omega (arith, c.requires, c.number_length.ensures, c.number_length-2.ensures, three_at_most c.number.result, three_at_most c.args.size)
-
-pub returns : goal.returns
-returns c =
-    let long = header_long (kind_number c.args.kind) c.args.size in
-    let same = ap (λ n. length (number_bytes n)) c.number.ensures in
-    omega (arith, c.number_length.ensures, c.number_length-2.ensures)

@@ -4,12 +4,6 @@ use Rattle.bodies.specs.NumberLists.{numbers, Begins}
 use Rattle.bodies.proofs.NumberLists.{begins_none, list_more, list_stops}
 use Rattle.bodies.proofs.number_list.ListAt.read.Goals as goal
 
-pub loop-init : goal.loop-init
-loop-init c =
-    let none = sym c.new-values.ensures in
-    subst (λ (l : List ℕ). Begins l (drop c.args.self.start c.args.self.body.now) × (c.args.self.start ≡ c.args.self.start + length (numbers l)) × (length l ≡ 0)) none
-    (begins_none (drop c.args.self.start c.args.self.body.now), omega arith, refl)
-
 pub returns-in_err-read : goal.returns-in_err-read
 returns-in_err-read c =
     let inv = c.loop.invariant in

@@ -6,9 +6,6 @@ use Rattle.traywriter.specs.Pages.{Added}
 use Rattle.traywriter.proofs.Puts.{added_none, added_next, numbers_more, length_more, front_within, small_at, length_put}
 use Rattle.traywriter.proofs.page.Page.put_list.Goals as goal
 
-pub loop-value-init : goal.loop-value-init
-loop-value-init c = added_none c.args.self.now
-
 pub put_number-requires : goal.put_number-requires
 put_number-requires c =
     let list = c.args.list.now in
@@ -25,7 +22,3 @@ loop-value-preserved c =
     let within = front_within list j in
     subst (λ (l : List ℕ). Added l c.args.self.now c.put_number.new.self) (sym (numbers_more list j (omega arith)))
     (added_next (numbers (take j list)) (number_bytes (get_or list j 0)) _ _ _ (omega (arith, c.requires.room)) c.loop-value.invariant c.put_number.ensures)
-
-pub returns : goal.returns
-returns c =
-    subst (λ (l : List ℕ). Added (numbers l) c.args.self.now c.loop-value.self) (take_all c.loop-value.value-index c.args.list.now (omega arith)) c.loop-value.invariant
