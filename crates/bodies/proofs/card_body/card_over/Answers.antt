@@ -1,11 +1,8 @@
-use Rattle.std.proofs.Common.{◌≡◌, refl, ap₂, ◌∙◌, subst}
-use mathlib.Core.Path.{subst⁻¹}
+use Rattle.std.proofs.Common.{refl, ap₂, subst}
 use Rattle.std.proofs.lemmas.Result.{err_from_is_err_and}
 use Rattle.codes.specs.Code.{Code, code_with}
-use Rattle.codes.specs.Checked.{Checked}
 use Rattle.codes.specs.Cards.{CardRefused}
 use Rattle.bodies.specs.CardHeads.{HeadFits}
-use Rattle.bodies.specs.CardBodies.{card_body}
 use Rattle.bodies.proofs.CardValues.{lists_refused, values_are, values_refused}
 use Rattle.bodies.proofs.card_body.card_over.Goals as goal
 

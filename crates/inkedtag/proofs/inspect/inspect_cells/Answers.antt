@@ -1,4 +1,4 @@
-use Rattle.std.proofs.Common.{◌≡◌, ℕ, List, [], ◌∷◌, length, refl, ap, ◌∙◌, subst, subst₂, Ok, Err, Result, rules}
+use Rattle.std.proofs.Common.{◌≡◌, ℕ, List, [], ◌∷◌, length, refl, ap, ◌∙◌, subst, subst₂, Ok, Err, Result}
 use Rattle.algebra.specs.Meaning.{Arithmetic}
 use Rattle.fields.specs.Modulo.{modulo}
 use Rattle.fields.specs.declared.prime_field.PrimeField.{PrimeField}

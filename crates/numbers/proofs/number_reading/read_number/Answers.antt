@@ -1,5 +1,5 @@
 use Rattle.std.proofs.Common.{arith}
-use Rattle.numbers.proofs.ReadBytes.{read_one, read_two, read_three, cut_none, cut_one, cut_two, zero_last, third_zero, third_large}
+use Rattle.numbers.proofs.ReadBytes.{read_one, read_two, read_three, zero_last, third_zero, third_large}
 use Rattle.numbers.proofs.number_reading.read_number.Goals as goal
 
 pub returns-then-first-lt-GOES_ON : goal.returns-then-first-lt-GOES_ON

@@ -5,7 +5,7 @@ use Rattle.trayfile.specs.Kinds.{kind_number, KindNamed}
 use Rattle.trayfile.specs.declared.fault.Fault.{Fault}
 use Rattle.trayfile.specs.declared.kind.Kind.{Kind}
 use Rattle.trayfile.specs.declared.kind.NoSuchKind.{NoSuchKind}
-use Rattle.trayfile.proofs.HeaderPlaces.{number_ends, no_length, no_body, header_in}
+use Rattle.trayfile.proofs.HeaderPlaces.{number_ends, no_length, no_body}
 use Rattle.trayfile.proofs.header.read_header.Goals as goal
 
 same_kind : (x y : Kind) → ◌≡◌ {A = Result Kind Fault} (Ok x) (Ok y) → y ≡ x

@@ -1,11 +1,11 @@
-use Rattle.std.proofs.Common.{ℕ, ◌+◌, ◌^◌, ◌<◌, List, length, ap, ◌∙◌, subst, inr, arith}
+use Rattle.std.proofs.Common.{ℕ, ◌+◌, ◌^◌, ◌<◌, List, length, subst, inr, arith}
 use Rattle.faults.specs.declared.body_fault.BodyFault.{BodyFault}
 use Rattle.faults.specs.declared.body_fault.BodyFault.TheVariants.{BadNumber, BadBody, BadNote, Field, Card, Tag}
 use Rattle.trayfile.specs.Faults.{BodyPlaceFits}
 use Rattle.trayfile.specs.Records.{BodyRefused, Done}
 use Rattle.trayfile.specs.declared.turn.Task.{Task}
 use Rattle.trayfile.proofs.BodyOffsets.{offset_within}
-use Rattle.trayfile.proofs.RecordPlaces.{order, within, body_long, step_in, body_wrong}
+use Rattle.trayfile.proofs.RecordPlaces.{order, within, step_in, body_wrong}
 use Rattle.trayfile.proofs.record_reading.read_record.Goals as goal
 
 pub part-requires : goal.part-requires

@@ -1,6 +1,4 @@
-use Rattle.std.proofs.Common.{ℕ, List, length, get_or, ap, ◌∙◌, arith}
-use Rattle.std.proofs.lemmas.List.{take_all}
-use Rattle.bodies.specs.NumberLists.{numbers}
+use Rattle.std.proofs.Common.{get_or, arith}
 use Rattle.traywriter.proofs.Puts.{three_at_most, length_more}
 use Rattle.traywriter.proofs.record_writing.list_length.Goals as goal
 

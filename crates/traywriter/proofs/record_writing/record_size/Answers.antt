@@ -1,8 +1,5 @@
-use Rattle.std.proofs.Common.{length, ap, arith}
-use Rattle.numbers.specs.Numbers.{number_bytes}
-use Rattle.trayfile.specs.Kinds.{kind_number}
+use Rattle.std.proofs.Common.{arith}
 use Rattle.traywriter.proofs.Puts.{three_at_most}
-use Rattle.traywriter.proofs.RecordPuts.{header_long}
 use Rattle.traywriter.proofs.record_writing.record_size.Goals as goal
 
 pub overflow_add-result : goal.overflow_add-result

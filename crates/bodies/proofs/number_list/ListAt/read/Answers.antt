@@ -1,7 +1,7 @@
-use Rattle.std.proofs.Common.{◌≡◌, ℕ, ◌+◌, List, length, drop, sym, refl, ap, ◌∙◌, subst, arith}
+use Rattle.std.proofs.Common.{ℕ, ◌+◌, List, length, drop, sym, ap, ◌∙◌, subst, arith}
 use Rattle.std.proofs.lemmas.Result.{err_from_is_err_and}
 use Rattle.bodies.specs.NumberLists.{numbers, Begins}
-use Rattle.bodies.proofs.NumberLists.{begins_none, list_more, list_stops}
+use Rattle.bodies.proofs.NumberLists.{list_more, list_stops}
 use Rattle.bodies.proofs.number_list.ListAt.read.Goals as goal
 
 pub returns-in_err-read : goal.returns-in_err-read

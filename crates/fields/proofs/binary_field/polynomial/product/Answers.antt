@@ -1,6 +1,6 @@
-use Rattle.std.proofs.Common.{◌≡◌, ℕ, suc, ◌-◌, ◌*◌, ◌/◌, ◌^◌, ◌<◌, sym, ap, ◌∙◌, subst, ap₂, mul-le-mul_right, one-mul, arith, pow_pos}
+use Rattle.std.proofs.Common.{◌≡◌, ℕ, suc, ◌-◌, ◌*◌, ◌/◌, ◌^◌, ◌<◌, sym, ap, ◌∙◌, subst, ap₂, arith, pow_pos}
 use native.Mathlib.Nat.{div-eq_of_lt}
-use lib.Bits.{bit_xor, and_mask, and_le_r}
+use lib.Bits.{bit_xor, and_mask}
 use Rattle.fields.specs.CarrylessProduct.{◌⊗◌}
 use Rattle.fields.specs.LongDivision.{remainder}
 use Rattle.fields.specs.PolynomialRing.{zero_product}

@@ -1,5 +1,4 @@
-use Rattle.std.proofs.Common.{ℕ, ◌/◌, ◌%◌, ◌<◌, sym, ap, ◌∙◌, subst, mod-lt, one-mul, div-add-mod', zero-mul, arith}
-use native.Mathlib.Nat.{mod_self, zero-mod}
+use Rattle.std.proofs.Common.{ℕ, ◌/◌, ◌%◌, ◌<◌, sym, subst, mod-lt, div-add-mod', arith}
 use Rattle.fields.proofs.Euclid.{Common, common_step, euclid_step, last_is_one, last_inverts}
 use Rattle.fields.proofs.prime_field.euclid.inverse.Goals as goal
 

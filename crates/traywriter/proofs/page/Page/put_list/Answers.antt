@@ -1,9 +1,8 @@
 use Rattle.std.proofs.Common.{ℕ, ◌+◌, List, length, get_or, take, sym, ap, arith, subst}
-use Rattle.std.proofs.lemmas.List.{take_all}
 use Rattle.numbers.specs.Numbers.{number_bytes}
 use Rattle.bodies.specs.NumberLists.{numbers}
 use Rattle.traywriter.specs.Pages.{Added}
-use Rattle.traywriter.proofs.Puts.{added_none, added_next, numbers_more, length_more, front_within, small_at, length_put}
+use Rattle.traywriter.proofs.Puts.{added_next, numbers_more, length_more, front_within, small_at, length_put}
 use Rattle.traywriter.proofs.page.Page.put_list.Goals as goal
 
 pub put_number-requires : goal.put_number-requires
