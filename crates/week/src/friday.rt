@@ -58,6 +58,9 @@ impl fmt::Display for TagRead {
         let word = Word {
             letters: &self.word,
         };
-        write!(f, "it reads, with {wrong} wrong and {blank} blank:\n  letters:{word}")
+        write!(
+            f,
+            "it reads, with {wrong} wrong and {blank} blank:\n  letters:{word}"
+        )
     }
 }
