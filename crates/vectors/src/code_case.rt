@@ -1,4 +1,6 @@
 // The code of a case, and what stands after it.
+ghost use Rattle.std.specs.Prelude.{◌≡◌, IfOk};
+
 use crate::numbers::read_numbers;
 use codes::CodeRef;
 use std::alloc::Global;
@@ -15,12 +17,15 @@ pub struct CodeCase<'a> {
 
 impl<'a> CodeCase<'a> {
     // From a text of locators; multipliers; the last part.
-    pub fn read(
+    pub(crate) fn read(
         heap: Global,
         letters: u32,
         rows: u32,
         text: &'a str,
-    ) -> anyhow::Result<CodeCase<'a>> {
+    ) -> anyhow::Result<CodeCase<'a>>
+        ensures letters { IfOk result (λ case. case.letters ≡ letters) }
+        ensures rows { IfOk result (λ case. case.rows ≡ rows) }
+    {
         let mut parts = text.split(';');
         let locators = read_numbers(heap, parts.next().unwrap_or(""))?;
         let multipliers = read_numbers(heap, parts.next().unwrap_or(""))?;
@@ -33,7 +38,12 @@ impl<'a> CodeCase<'a> {
         })
     }
 
-    pub fn code(&self) -> CodeRef<'_> {
+    pub fn code(&self) -> CodeRef<'_>
+        ensures letters { result.letters ≡ self.now.letters }
+        ensures rows { result.rows ≡ self.now.rows }
+        ensures locators { result.locators.now ≡ self.now.locators.items }
+        ensures multipliers { result.multipliers.now ≡ self.now.multipliers.items }
+    {
         CodeRef {
             letters: self.letters,
             rows: self.rows,

@@ -23,7 +23,7 @@ pub fn read_cells(heap: Global, text: &str) -> anyhow::Result<Vec<Cell>> {
 }
 
 // The coefficients up to the degree, the constant term first; one 0 for the polynomial 0.
-pub fn up_to_degree(coefficients: &[u32]) -> Word<'_> {
+pub(crate) fn up_to_degree(coefficients: &[u32]) -> Word<'_> {
     let degree = coefficients.iter().rposition(|x| *x != 0).unwrap_or(0);
     Word {
         letters: coefficients.get(0..=degree).unwrap_or(&[]),
