@@ -1,4 +1,6 @@
 // Numbers and cells, read from a case and shown in its answer.
+ghost use Rattle.vectors.specs.Degrees.{UpToDegree};
+
 use codes::{Cell, Word};
 use std::alloc::Global;
 
@@ -23,7 +25,9 @@ pub fn read_cells(heap: Global, text: &str) -> anyhow::Result<Vec<Cell>> {
 }
 
 // The coefficients up to the degree, the constant term first; one 0 for the polynomial 0.
-pub(crate) fn up_to_degree(coefficients: &[u32]) -> Word<'_> {
+pub fn up_to_degree(coefficients: &[u32]) -> Word<'_>
+    ensures { UpToDegree coefficients.now result.letters.now }
+{
     let degree = coefficients.iter().rposition(|x| *x != 0).unwrap_or(0);
     Word {
         letters: coefficients.get(0..=degree).unwrap_or(&[]),
