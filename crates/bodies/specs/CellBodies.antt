@@ -1,6 +1,5 @@
 -- The bodies of cells records. Assumes nothing.
 use Rattle.std.specs.Prelude.{◌≡◌, ℕ, zero, suc, ◌+◌, ◌<◌, ◌≤◌, List, map, length, Some, None, Ok, Err, Option, Result, ◌≢◌, slice_index}
-use Rattle.arrayvec.specs.ArrayVec.{ArrayVec}
 use Rattle.codes.specs.Code.{Code}
 use Rattle.codes.specs.Cells.{blank_cell, noted_cell}
 use Rattle.codes.specs.Verdicts.{Lettered}
@@ -60,9 +59,9 @@ CellsRefused n letters body BadNote = ⊥
 CellsRefused n letters body (Field fault) = ⊥
 CellsRefused n letters body (Card cause) = ⊥
 
-abbrev pub CellNumbersRead : ℕ → ℕ → List ℕ → Result (ArrayVec ℕ) BodyFault → Type 0
+abbrev pub CellNumbersRead : ℕ → ℕ → List ℕ → Result (List ℕ) BodyFault → Type 0
 CellNumbersRead n letters body (Ok list) =
-    Are list.items body × UpTo letters list.items × (length list.items ≡ n)
+    Are list body × UpTo letters list × (length list ≡ n)
 CellNumbersRead n letters body (Err fault) = CellsRefused n letters body fault
 
 -- Some cells have this body, or it is refused.

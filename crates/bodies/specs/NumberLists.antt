@@ -46,9 +46,9 @@ NumberMissing start wanted bytes (Tag cause) = ⊥
 -- So many numbers stand first, with the place after them, or one of them is missing.
 abbrev pub ListRead : List ℕ → ℕ → ℕ → Result NumberList BodyFault → Type 0
 ListRead bytes start count (Ok list) =
-    Begins list.values.items bytes
-    × (list.end ≡ start + length (numbers list.values.items))
-    × (length list.values.items ≡ count)
+    Begins list.values bytes
+    × (list.end ≡ start + length (numbers list.values))
+    × (length list.values ≡ count)
 ListRead bytes start count (Err fault) = NumberMissing start count bytes fault
 
 -- the number that stands first in a body's bytes from a place on

@@ -1,6 +1,5 @@
 -- Lists of numbers that end where the body ends. Assumes nothing.
 use Rattle.std.specs.Prelude.{◌≡◌, ℕ, ◌+◌, ◌<◌, ◌⊎◌, List, ◌++◌, length, Ok, Err, Result}
-use Rattle.arrayvec.specs.ArrayVec.{ArrayVec}
 use Rattle.numbers.specs.NumberReading.{EndsInside, NoNumber}
 use Rattle.bodies.specs.NumberLists.{numbers, Small, after, Begins, Stops}
 use Rattle.faults.specs.declared.body_fault.BodyFault.{BodyFault}
@@ -29,12 +28,12 @@ pub record Are (vs bytes : List ℕ) : Type 0 where
   pub small : Small vs
   pub bytes_are : bytes ≡ numbers vs
 
-abbrev pub WholeListRead : List ℕ → ℕ → ℕ → Result (ArrayVec ℕ) BodyFault → Type 0
-WholeListRead bytes start count (Ok list) = Are list.items bytes × (length list.items ≡ count)
+abbrev pub WholeListRead : List ℕ → ℕ → ℕ → Result (List ℕ) BodyFault → Type 0
+WholeListRead bytes start count (Ok list) = Are list bytes × (length list ≡ count)
 WholeListRead bytes start count (Err fault) = ListRefused start count bytes fault
 
 abbrev pub TwoListsRead : List ℕ → ℕ → ℕ → Result TwoLists BodyFault → Type 0
 TwoListsRead bytes start count (Ok lists) =
-    Are (lists.locators.items ++ lists.multipliers.items) bytes
-    × (length lists.locators.items ≡ count) × (length lists.multipliers.items ≡ count)
+    Are (lists.locators ++ lists.multipliers) bytes
+    × (length lists.locators ≡ count) × (length lists.multipliers ≡ count)
 TwoListsRead bytes start count (Err fault) = ListRefused start (count + count) bytes fault

@@ -9,10 +9,10 @@ use crate::cells_refusal::CellsRefusal;
 use crate::number_list::ListAt;
 use crate::shape_of_card::shape_of;
 use algebra::LARGEST_CELLS;
-use arrayvec::ArrayVec;
 use codes::{Card, Cell};
 use faults::{BodyFault, TagCause};
 use fields::LetteredField;
+use shortlist::ShortList;
 
 // Refuses a body that is not that of cells under a card of this shape.
 pub fn check_cells(shape: CardShape, body: &[u8]) -> Result<(), BodyFault>
@@ -41,7 +41,7 @@ pub fn read_cells<F: LetteredField>(
 }
 
 // The numbers of the cells. Whether they stand for letters is asked once they are all there.
-fn cell_numbers(shape: CardShape, body: &[u8]) -> Result<ArrayVec<u32, LARGEST_CELLS>, BodyFault>
+fn cell_numbers(shape: CardShape, body: &[u8]) -> Result<ShortList<LARGEST_CELLS>, BodyFault>
     ensures { CellNumbersRead shape.cells shape.letters body.now result }
 {
     let list = ListAt {

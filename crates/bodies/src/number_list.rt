@@ -4,9 +4,9 @@ ghost use Rattle.algebra.specs.Limits.{largest_cells};
 ghost use Rattle.bodies.specs.NumberLists.{NumberIn, ListRead};
 
 use algebra::LARGEST_CELLS;
-use arrayvec::ArrayVec;
 use faults::BodyFault;
 use numbers::{NumberCause, NumberRead, read_number};
+use shortlist::ShortList;
 
 // Where a list is looked for: so many numbers, from a place of the body on.
 #[derive(Clone, Copy)]
@@ -18,9 +18,9 @@ pub struct ListAt<'a> {
 }
 
 // The numbers, and the place after the last of them.
-#[derive(Drop)]
+#[derive(Clone, Copy)]
 pub struct NumberList {
-    pub values: ArrayVec<u32, LARGEST_CELLS>,
+    pub values: ShortList<LARGEST_CELLS>,
     pub end: usize,
 }
 
@@ -28,7 +28,7 @@ impl<'a> ListAt<'a> {
     pub fn read(self) -> Result<NumberList, BodyFault>
         ensures { ListRead (drop self.entry.start self.entry.body.now) self.entry.start self.entry.count result }
     {
-        let mut values = ArrayVec::new();
+        let mut values = ShortList::new();
         let mut place = self.start;
         for _ in 0..self.count {
             let read = number_in(self.body, place)?;

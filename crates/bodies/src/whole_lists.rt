@@ -4,19 +4,19 @@ ghost use Rattle.bodies.specs.WholeLists.{WholeListRead, TwoListsRead};
 
 use crate::number_list::ListAt;
 use algebra::LARGEST_CELLS;
-use arrayvec::ArrayVec;
 use faults::BodyFault;
+use shortlist::ShortList;
 
 // A card's two lists.
-#[derive(Drop)]
+#[derive(Clone, Copy)]
 pub struct TwoLists {
-    pub locators: ArrayVec<u32, LARGEST_CELLS>,
-    pub multipliers: ArrayVec<u32, LARGEST_CELLS>,
+    pub locators: ShortList<LARGEST_CELLS>,
+    pub multipliers: ShortList<LARGEST_CELLS>,
 }
 
 impl<'a> ListAt<'a> {
     // The numbers, and nothing after them.
-    pub fn read_whole(self) -> Result<ArrayVec<u32, LARGEST_CELLS>, BodyFault>
+    pub fn read_whole(self) -> Result<ShortList<LARGEST_CELLS>, BodyFault>
         ensures { WholeListRead (drop self.entry.start self.entry.body.now) self.entry.start self.entry.count result }
     {
         let list = self.read()?;

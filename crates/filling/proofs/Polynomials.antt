@@ -1,34 +1,10 @@
 -- Steps of the loops on polynomials: the product with X − a, and the division by it. Assumes nothing.
-use Rattle.std.proofs.Common.{reverse, ◌≡◌, ℕ, suc, ◌+◌, ◌-◌, ◌<◌, ◌≤◌, List, [], ◌∷◌, ◌++◌, length, get_or, take, drop, set, sym, ap, ◌∙◌, subst, ap₂, append_assoc, arith, drop-cons}
-use Rattle.std.proofs.lemmas.List.{take_more_set, drop_more, take-append-le, take_all, drop_all, length-reverse, get_or-reverse, get_or_default}
+use Rattle.std.proofs.Common.{reverse, ◌≡◌, ℕ, suc, ◌-◌, ◌<◌, List, [], ◌∷◌, length, get_or, drop, sym, ap, ◌∙◌, subst, ap₂, arith, drop-cons}
+use Rattle.std.proofs.lemmas.List.{drop_all, length-reverse, get_or-reverse, get_or_default}
 use Rattle.std.proofs.lemmas.Slice.Zip.{length-zip, get_or-zip}
-use Rattle.std.specs.List.{refill, zip}
+use Rattle.std.specs.List.{zip}
 use Rattle.algebra.specs.Meaning.{Arithmetic}
-use Rattle.algebra.specs.Polynomial.{evaluate, plus_linear, quotient_linear, act}
-
--- a list that is refilled by one of its own length is that one
-pub refill_same : (xs ws : List ℕ) → length ws ≡ length xs → refill (length xs) xs ws ≡ ws
-refill_same xs ws e = take-append-le (length xs) ws (drop (length ws) xs) (omega arith) ∙ take_all (length xs) ws (omega arith)
-
-module _ (A : Arithmetic) (a : ℕ) (P : List ℕ) where
-  -- one more coefficient of the product stands in the array
-  pub product_more : (whole cs : List ℕ) (below own k v : ℕ) → k < length P → k < length cs → own ≡ get_or P k 0 →
-      v ≡ A.minus below (A.times a own) → take k cs ++ plus_linear A below a (drop k P) ≡ whole →
-      take (k + 1) (set cs k v) ++ plus_linear A own a (drop (k + 1) P) ≡ whole
-  product_more whole cs below own k v h within at-k is so_far =
-      ap (λ l. l ++ plus_linear A own a (drop (k + 1) P)) (take_more_set cs k v within)
-      ∙ append_assoc (take k cs) (v ∷ []) (plus_linear A own a (drop (k + 1) P))
-      ∙ ap (λ x. take k cs ++ x ∷ plus_linear A own a (drop (k + 1) P)) is
-      ∙ ap (λ x. take k cs ++ plus_linear A below a (x ∷ drop (k + 1) P)) at-k
-      ∙ ap (λ l. take k cs ++ plus_linear A below a l) (sym (drop_more P k 0 h))
-      ∙ so_far
-
-  -- the last coefficient is the one below
-  pub product_all : (whole cs : List ℕ) (below k : ℕ) → length P ≤ k → length cs ≤ k →
-      take k cs ++ plus_linear A below a (drop k P) ≡ whole → cs ++ (below ∷ []) ≡ whole
-  product_all whole cs below k h within so_far =
-      ap (λ l. l ++ (below ∷ [])) (sym (take_all k cs within))
-      ∙ ap (λ l. take k cs ++ plus_linear A below a l) (sym (drop_all k P h)) ∙ so_far
+use Rattle.algebra.specs.Polynomial.{evaluate, quotient_linear, act}
 
 -- quotient, action and value at k of the division of P by X − a from the highest coefficient down to k, with S the sums
 pub record Divided (A : Arithmetic) (a : ℕ) (P : List ℕ) (S : ℕ → ℕ) (k quotient action value : ℕ) : Type 0 where

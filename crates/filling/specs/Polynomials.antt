@@ -4,7 +4,7 @@ use Rattle.filling.specs.declared.polynomial.Polynomial.{Polynomial}
 
 -- its coefficients, the constant term first
 abbrev pub coefficients_of : Polynomial → List ℕ
-coefficients_of p = p.coefficients.items
+coefficients_of p = p.coefficients
 
 abbrev pub degree_of : Polynomial → ℕ
 degree_of p = length (coefficients_of p) - 1

@@ -4,11 +4,11 @@ mod products;
 ghost use Rattle.std.specs.Prelude.{◌<◌, length};
 
 use algebra::COEFFICIENTS;
-use arrayvec::ArrayVec;
+use shortlist::ShortList;
 
-#[derive(Drop)]
+#[derive(Clone, Copy)]
 pub struct Polynomial {
     // The constant term first.
-    coefficients: ArrayVec<u32, COEFFICIENTS>,
-    ghost constant: { 0 < length coefficients.items },
+    coefficients: ShortList<COEFFICIENTS>,
+    ghost constant: { 0 < length coefficients },
 }

@@ -21,6 +21,6 @@ pub record CellsRead (A : Arithmetic) (code : Code) (body after : List ℕ) (ans
 
 -- The word near the body's cells, with its two counts; or the body is refused, or the cells do not read.
 abbrev pub WordFound : Arithmetic → Code → List ℕ → Result WordRead WordRefusal → Type 0
-WordFound A code body (Ok word) = CellsRead A code body word.letters.items (Ok word.counts)
+WordFound A code body (Ok word) = CellsRead A code body word.letters (Ok word.counts)
 WordFound A code body (Err (Body fault)) = CellsRefused (length code.locators) code.letters body fault
 WordFound A code body (Err (Unread refusal)) = (after : List ℕ) × CellsRead A code body after (Err refusal)

@@ -8,7 +8,7 @@ use crate::word_read::WordRead;
 use trayfile::TrayReader;
 
 // What one record tells.
-#[derive(Clone, Drop)]
+#[derive(Clone, Copy)]
 pub enum Step {
     // A card or a note tells nothing.
     Silent,

@@ -11,7 +11,7 @@ fn read_line(place: usize, word: &WordRead) -> ReadLine<'_>
     ensures place { result.place ≡ place }
     ensures wrong { result.wrong ≡ word.now.counts.wrong }
     ensures blank { result.blank ≡ word.now.counts.blank }
-    ensures letters { result.word.letters.now ≡ word.now.letters.items }
+    ensures letters { result.word.letters.now ≡ word.now.letters }
 {
     ReadLine {
         place,

@@ -1,11 +1,11 @@
 // A word that was read.
 use algebra::LARGEST_CELLS;
-use arrayvec::ArrayVec;
 use reading::Counts;
+use shortlist::ShortList;
 
 // The word, and how many cells are wrong and how many blank.
-#[derive(Clone, Drop)]
+#[derive(Clone, Copy)]
 pub struct WordRead {
     pub counts: Counts,
-    pub letters: ArrayVec<u32, LARGEST_CELLS>,
+    pub letters: ShortList<LARGEST_CELLS>,
 }

@@ -6,12 +6,12 @@ ghost use Rattle.traylines.specs.declared.word_reading.WordRefusal.TheVariants.{
 
 use crate::word_read::WordRead;
 use algebra::LARGEST_CELLS;
-use arrayvec::ArrayVec;
 use bodies::CellsRefusal;
 use codes::{Card, Cell};
 use faults::BodyFault;
 use fields::LetteredField;
 use reading::ReadRefusal;
+use shortlist::ShortList;
 use thiserror::Error;
 
 // The body is not that of cells under the card, or the cells do not read.
@@ -40,7 +40,7 @@ pub fn read_word<F: LetteredField>(card: &Card<F>, body: &[u8]) -> Result<WordRe
     let counts = reading::read_cells(card, cells, letters)?;
     Ok(WordRead {
         counts,
-        letters: ArrayVec::try_from(&*letters).unwrap(),
+        letters: ShortList::from_slice(letters),
     })
 }
 

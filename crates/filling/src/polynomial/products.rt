@@ -5,15 +5,15 @@ ghost use Rattle.algebra.specs.Limits.{largest_rows};
 ghost use Rattle.filling.specs.Polynomials.{coefficients_of, degree_of};
 
 use crate::polynomial::Polynomial;
-use arrayvec::ArrayVec;
 use fields::Field;
+use shortlist::ShortList;
 
 impl Polynomial {
     pub fn one() -> Polynomial
         ensures value { coefficients_of result ≡ 1 ∷ [] }
         ensures constant { degree_of result ≡ 0 }
     {
-        let mut coefficients = ArrayVec::new();
+        let mut coefficients = ShortList::new();
         coefficients.push(1);
         Polynomial { coefficients }
     }
@@ -40,13 +40,12 @@ impl Polynomial {
         ensures product { coefficients_of result ≡ linear_product (F.Field.meaning field.now).arithmetic point (coefficients_of self) }
         ensures higher { degree_of result ≡ suc (degree_of self) }
     {
-        let mut coefficients = self.coefficients;
+        let mut coefficients = ShortList::new();
         // The coefficient of the power below.
         let mut below = 0;
-        for coefficient in coefficients.as_mut_slice() {
-            let own = *coefficient;
-            *coefficient = field.sub(below, field.mul(point, own));
-            below = own;
+        for coefficient in self.coefficients() {
+            coefficients.push(field.sub(below, field.mul(point, *coefficient)));
+            below = *coefficient;
         }
         coefficients.push(below);
         Polynomial { coefficients }

@@ -58,8 +58,8 @@ impl<'a> FileLines<'a> {
 
 impl Step {
     // Whether the file has more to tell.
-    pub fn goes_on(&self) -> bool
-        ensures { result ≡ goes_on self.now }
+    pub fn goes_on(self) -> bool
+        ensures { result ≡ goes_on self }
     {
         !matches!(self, Step::End(_) | Step::Fault(_))
     }

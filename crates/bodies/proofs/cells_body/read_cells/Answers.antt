@@ -8,7 +8,7 @@ pub returns-clause-read : goal.returns-clause-read
 returns-clause-read g c =
     let shape = c.shape_of-shape.result in
     let is = c.shape_of-shape.ensures in
-    let numbers = c.in_ok-numbers.numbers.items in
+    let numbers = c.in_ok-numbers.numbers in
     let read = c.in_ok-numbers.ensures in
     let found = cells_in shape.cells shape.letters numbers c.args.body.now read.0 read.2 read.1 in
     (c.if-cells-shape.false ∙ is.cells, cells_renamed found is.cells is.letters (c.write_cells.ensures ∙ ap cells_of c.as_slice.ensures.value))

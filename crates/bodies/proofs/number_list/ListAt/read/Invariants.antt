@@ -5,6 +5,6 @@ use Rattle.bodies.proofs.number_list.ListAt.read.Given as goal
 -- the numbers so far, and the place after them
 abbrev pub invariant-loop : goal.invariant-loop
 invariant-loop l =
-    Begins l.values.items (drop l.self.start l.self.body.now)
-    × (l.place ≡ l.self.start + length (numbers l.values.items))
-    × (length l.values.items ≡ l.counter)
+    Begins l.values (drop l.self.start l.self.body.now)
+    × (l.place ≡ l.self.start + length (numbers l.values))
+    × (length l.values ≡ l.counter)

@@ -17,7 +17,7 @@ returns-in_err-read_whole c =
     let list = c.args.self in
     let read = c.in_ok-first.ensures in
     let first = c.in_ok-first.first in
-    let stop = refused_after first.values.items list.body.now list.start first.end list.count _ read.0 read.2 read.1 c.in_err-read_whole.ensures in
+    let stop = refused_after first.values list.body.now list.start first.end list.count _ read.0 read.2 read.1 c.in_err-read_whole.ensures in
     let p = err_from_is_err_and c.from_residual-in_err-read_whole.result c.from_residual-in_err-read_whole.ensures.1 in
     rw (p.1, p.2) stop
 
@@ -27,6 +27,6 @@ returns c =
     let read = c.in_ok-first.ensures in
     let first = c.in_ok-first.first in
     let rest = c.in_ok-read_whole.ensures in
-    let second = c.in_ok-read_whole.field-0.items in
-    let here = subst (λ (l : List ℕ). Are second l) (from_end first.values.items list.body.now list.start first.end read.1) rest.0 in
-    (are_both first.values.items (drop list.start list.body.now) list.count read.0 read.2 second here, read.2, rest.1)
+    let second = c.in_ok-read_whole.field-0 in
+    let here = subst (λ (l : List ℕ). Are second l) (from_end first.values list.body.now list.start first.end read.1) rest.0 in
+    (are_both first.values (drop list.start list.body.now) list.count read.0 read.2 second here, read.2, rest.1)

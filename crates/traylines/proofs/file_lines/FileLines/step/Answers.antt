@@ -11,3 +11,8 @@ pub tell_cells-step-requires : goal.tell_cells-step-requires
 tell_cells-step-requires c =
     let here = (answered_as _ _ _ _ _ c.in-Some.ensures.step c.in-Ok.is c.in-Cells.is).here in
     ∥∥₁_map c.args.self.now.under (λ last. (after_cells _ _ _ _ last here.follows).0)
+
+pub invariant_of-self-in-Cells : goal.invariant_of-self-in-Cells
+invariant_of-self-in-Cells c =
+    let here = (answered_as _ _ _ _ _ c.in-Some.ensures.step c.in-Ok.is c.in-Cells.is).here in
+    record { under = ∥∥₁_map c.args.self.now.under (λ last. (after_cells _ _ _ _ last here.follows).1) }
