@@ -1,21 +1,10 @@
 -- The coefficients of polynomials in 65 places. Assumes nothing.
-use Rattle.std.proofs.Common.{◌≡◌, ℕ, zero, suc, ◌+◌, ◌<◌, ◌≤◌, List, length, get_or, sym, ap, ◌∙◌, ⊎_elim, subst, arith}
+use Rattle.std.proofs.Common.{◌≡◌, ℕ, ◌<◌, ◌≤◌, List, length, get_or, ap, ◌∙◌, ⊎_elim, arith}
 use Rattle.std.proofs.lemmas.List.FromFn.{get_or-map-range_with_len, length-map-range_with_len, fill_by_all}
 use Rattle.std.proofs.lemmas.List.{get_or_past}
-use Rattle.std.proofs.lemmas.Bool.{le-leb, lt-leb, cases_eq, cases_lt, cond-true, cond-false}
-use denote.Param.Members.{Mut, Called}
-use Rattle.std.specs.Array.{IsFromFnResultFrom}
+use Rattle.std.proofs.lemmas.Bool.{le-leb, lt-leb, cases_lt, cond-true, cond-false}
 use Rattle.algebra.specs.Limits.{coefficients}
 use Rattle.pairs.specs.Poly.{cut, up_to, coeff}
-
--- the places that a closure made, which gives v and stays as it was
-pub made_by : {F : Type 0} (g : Mut F (ℕ × Unit {0}) ℕ) (f : F) (v : ℕ → ℕ) → ((i y : ℕ) (q : F) → Called g f (i, tt) y q → (y ≡ v i) × (q ≡ f))
-    → (xs : List ℕ) (i n : ℕ) → IsFromFnResultFrom g f xs i n → (k : ℕ) → i ≤ k → k < i + n → get_or xs k 0 ≡ v k
-made_by g f v gives xs i zero each k low high = absurd (omega arith)
-made_by {F} g f v gives xs i (suc n) each k low high =
-    let call = gives i each.1 each.0 each.3 in
-    ⊎_elim (λ (e : k ≡ i). ap (λ j. get_or xs j 0) e ∙ each.2.1 0 ∙ call.0 ∙ ap v (sym e))
-    (λ other. made_by g f v gives xs (i + 1) n (subst (λ (q : F). IsFromFnResultFrom g q xs (i + 1) n) call.1 each.4) k (omega arith) (omega arith)) (cases_eq k i)
 
 module _ (m : ℕ) (f : ℕ → ℕ) where
   pub length_up_to : length (up_to m f).coeffs ≡ coefficients

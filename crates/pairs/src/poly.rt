@@ -5,7 +5,6 @@ ghost use Rattle.pairs.specs.Poly.{constant, cut, coefficient, combined};
 
 use algebra::COEFFICIENTS;
 use fields::Field;
-use std::array;
 
 // Not the `Polynomial` of `filling`: the degree here is that of a pair, and every place is handed out.
 #[derive(Clone, Copy)]
@@ -40,9 +39,12 @@ impl<'a> Combination<'a> {
     pub fn over<F: Field>(&self, field: &F) -> Poly
         ensures { result ≡ combined (F.Field.meaning field.now).arithmetic self.now.a self.now.p.now self.now.b self.now.d self.now.q.now self.now.degree }
     {
-        Poly {
-            coeffs: array::from_fn(|j| self.coefficient(field, j)),
+        let mut coeffs = [0; COEFFICIENTS];
+        // By place: what stands above the degree is neither worked out nor written.
+        for j in 0..self.degree + 1 {
+            coeffs[j] = self.coefficient(field, j);
         }
+        Poly { coeffs }
     }
 
     // The coefficient of X^j.
