@@ -2,4 +2,3 @@ pub mod Words
 pub mod Codewords
 pub mod CellParts
 pub mod CountedLists
-pub mod Zipped

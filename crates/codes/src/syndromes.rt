@@ -34,10 +34,11 @@ impl<'a, F: Field> CodeOver<'a, F> {
             return Err(SumsRefusal::WrongLength);
         }
         sums.fill(0);
-        for ((cell, locator), multiplier) in cells.iter().zip(code.locators).zip(code.multipliers) {
+        // By index, since the sums are defined so: place j has the cell, the locator and the multiplier of place j.
+        for (j, cell) in cells.iter().enumerate() {
             if let Some(letter) = cell.letter {
-                let weighted = self.field.mul(letter, *multiplier);
-                add_powers(self.field, weighted, *locator, sums);
+                let weighted = self.field.mul(letter, code.multipliers[j]);
+                add_powers(self.field, weighted, code.locators[j], sums);
             }
         }
         Ok(())
