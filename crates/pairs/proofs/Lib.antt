@@ -1,3 +1,4 @@
 pub mod PolyFacts
 pub mod Counting
 pub mod PairInvariant
+pub mod Bounds

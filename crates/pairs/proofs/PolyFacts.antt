@@ -3,8 +3,13 @@ use Rattle.std.proofs.Common.{◌≡◌, ℕ, ◌<◌, ◌≤◌, List, length, 
 use Rattle.std.proofs.lemmas.List.FromFn.{get_or-map-range_with_len, length-map-range_with_len, fill_by_all}
 use Rattle.std.proofs.lemmas.List.{get_or_past}
 use Rattle.std.proofs.lemmas.Bool.{le-leb, lt-leb, cases_lt, cond-true, cond-false}
+use Rattle.std.proofs.lemmas.Grind.{same_number_lists}
 use Rattle.algebra.specs.Limits.{coefficients}
 use Rattle.pairs.specs.Poly.{cut, up_to, coeff}
+use Rattle.pairs.specs.declared.poly.Poly.{Poly}
+
+pub same_polys : (p q : Poly) → length p.coeffs ≡ length q.coeffs → ((k : ℕ) → k < length p.coeffs → coeff p k ≡ coeff q k) → p ≡ q
+same_polys p q long same = ap (λ (xs : List ℕ). record { coeffs = xs }) (same_number_lists p.coeffs q.coeffs long same)
 
 module _ (m : ℕ) (f : ℕ → ℕ) where
   pub length_up_to : length (up_to m f).coeffs ≡ coefficients

@@ -4,7 +4,7 @@ use Rattle.algebra.specs.Limits.{longest_sequence, coefficients}
 use Rattle.algebra.specs.Meaning.{Arithmetic}
 use Rattle.algebra.specs.Theorems.{Elements}
 use Rattle.algebra.specs.Realisation.{applied, Minimal}
-use Rattle.pairs.specs.Poly.{constant, combined}
+use Rattle.pairs.specs.Poly.{constant, combined, UpTo}
 use Rattle.pairs.specs.declared.poly.Poly.{Poly}
 use Rattle.pairs.specs.declared.minimal_pair.State.{State}
 use Rattle.pairs.specs.declared.minimal_pair.RealiseRefusal.{RealiseRefusal}
@@ -67,6 +67,13 @@ state_after A s (suc i) = stepped A s i (state_after A s i)
 pub record Counted (i : ℕ) (st : State) : Type 0 where
   pub read : st.degree ≤ i
   pub d_is : st.d +ℤ pos (i + 1) ≡ pos (2 * st.degree)
+
+-- the polynomials have no coefficients above the degree
+pub record Bounded (st : State) : Type 0 where
+  pub f_up_to : UpTo st.degree st.pair.f
+  pub w_up_to : UpTo st.degree st.pair.w
+  pub kept_f_up_to : UpTo st.degree st.kept.f
+  pub kept_w_up_to : UpTo st.degree st.kept.w
 
 -- the sequence is not too long, and the buffers have a place for each coefficient
 pub record Lengths (s f w : List ℕ) : Type 0 where

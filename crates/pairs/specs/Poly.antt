@@ -1,5 +1,5 @@
 -- Polynomials in 65 places, and the combination of two of them. Assumes nothing.
-use Rattle.std.specs.Prelude.{ℕ, ◌-◌, cond, map, nat_le, nat_lt, slice_index}
+use Rattle.std.specs.Prelude.{◌≡◌, ℕ, ◌-◌, ◌<◌, cond, map, nat_le, nat_lt, slice_index}
 use Rattle.std.specs.List.{range_with_len}
 use Rattle.algebra.specs.Limits.{coefficients}
 use Rattle.algebra.specs.Meaning.{Arithmetic}
@@ -20,6 +20,10 @@ constant x = up_to 0 (λ _. x)
 -- the coefficient of X^j in p
 abbrev pub coeff : Poly → ℕ → ℕ
 coeff p j = slice_index p.coeffs j
+
+-- no coefficient above that of X^m is other than 0
+abbrev pub UpTo : ℕ → Poly → Type 0
+UpTo m p = (j : ℕ) → m < j → coeff p j ≡ 0
 
 -- the coefficient of X^j in a × p − b × X^d × q
 abbrev pub coefficient : Arithmetic → ℕ → Poly → ℕ → ℕ → Poly → ℕ → ℕ

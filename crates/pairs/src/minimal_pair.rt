@@ -2,7 +2,7 @@
 ghost use Rattle.std.specs.Prelude.{◌≡◌, ◌+◌, ◌<◌, length, pos, ◌≤ℤ◌, ◌<ℤ◌, unsigned_abs};
 ghost use Rattle.algebra.specs.Limits.{longest_sequence, coefficients};
 ghost use Rattle.algebra.specs.Realisation.{applied};
-ghost use Rattle.pairs.specs.MinimalPair.{start, changed, stepped_poly, updated, stepped, Counted, Realised, MinimalAnswer, realise_number};
+ghost use Rattle.pairs.specs.MinimalPair.{start, changed, updated, stepped, Counted, Bounded, Realised, MinimalAnswer, realise_number};
 ghost use Rattle.pairs.specs.WorkedPairs.{WorkedPairs};
 
 use crate::poly::{Combination, Poly};
@@ -27,14 +27,14 @@ impl RealiseRefusal {
 }
 
 // A polynomial f and its partner w.
-#[derive(Clone, Copy)]
+#[derive(Drop)]
 struct Pair {
     f: Poly,
     w: Poly,
 }
 
 // What the algorithm holds between two numbers of the sequence.
-#[derive(Clone, Copy)]
+#[derive(Drop)]
 struct State {
     pair: Pair,
     // The degree of the pair's f.
@@ -68,73 +68,54 @@ impl State {
 
     // The pair and the kept pair in each other's places, before a new pair of a larger degree is made; `discrepancy` is
     // that of the pair which is kept from now on.
-    fn change(self, discrepancy: u32) -> State
-        requires negative { self.d <ℤ pos 0 }
-        requires small { self.degree + unsigned_abs self.d < coefficients }
-        ensures { result ≡ changed discrepancy self }
+    fn change(&mut self, discrepancy: u32)
+        requires negative { self.old.d <ℤ pos 0 }
+        requires small { self.old.degree + unsigned_abs self.old.d < coefficients }
+        requires bounded { Bounded self.old }
+        ensures { self.new ≡ changed discrepancy self.old }
     {
-        let growth = -self.d;
-        State {
-            pair: self.kept,
-            degree: self.degree + growth as usize,
-            kept: self.pair,
-            kept_discrepancy: discrepancy,
-            d: growth,
-        }
-    }
-
-    // Kept discrepancy × p − discrepancy × X^d × q.
-    fn next_poly<F: Field>(&self, field: &F, discrepancy: u32, p: &Poly, q: &Poly) -> Poly
-        requires positive { pos 0 ≤ℤ self.now.d }
-        requires shift { unsigned_abs self.now.d < coefficients }
-        requires small { self.now.degree < coefficients }
-        ensures { result ≡ stepped_poly (F.Field.meaning field.now).arithmetic discrepancy self.now p.now q.now }
-    {
-        Combination {
-            a: self.kept_discrepancy,
-            p,
-            b: discrepancy,
-            d: self.d as usize,
-            q,
-            degree: self.degree,
-        }
-        .over(field)
+        self.pair.f.exchange(&mut self.kept.f, self.degree);
+        self.pair.w.exchange(&mut self.kept.w, self.degree);
+        self.kept_discrepancy = discrepancy;
+        self.d = -self.d;
+        self.degree += self.d as usize;
     }
 
     // The new pair: kept discrepancy × pair − discrepancy × X^d × kept pair.
-    fn update<F: Field>(self, field: &F, discrepancy: u32) -> State
-        requires positive { pos 0 ≤ℤ self.d }
-        requires shift { unsigned_abs self.d < coefficients }
-        requires small { self.degree < coefficients }
-        ensures { result ≡ updated (F.Field.meaning field.now).arithmetic discrepancy self }
+    fn update<F: Field>(&mut self, field: &F, discrepancy: u32)
+        requires positive { pos 0 ≤ℤ self.old.d }
+        requires small { self.old.degree < coefficients }
+        requires bounded { Bounded self.old }
+        ensures { self.new ≡ updated (F.Field.meaning field.now).arithmetic discrepancy self.old }
     {
-        let f = self.next_poly(field, discrepancy, &self.pair.f, &self.kept.f);
-        let w = self.next_poly(field, discrepancy, &self.pair.w, &self.kept.w);
-        State {
-            pair: Pair { f, w },
-            d: self.d - 1,
-            ..self
-        }
+        let combination = Combination {
+            a: self.kept_discrepancy,
+            b: discrepancy,
+            d: self.d as usize,
+            degree: self.degree,
+        };
+        combination.combine(field, &mut self.pair.f, &self.kept.f);
+        combination.combine(field, &mut self.pair.w, &self.kept.w);
+        self.d -= 1;
     }
 
-    // The state after number i of the sequence, from that before it.
-    fn step<F: Field>(self, field: &F, sequence: &[u32], i: usize) -> State
-        requires counted { Counted i self }
+    // Reads number i of the sequence.
+    fn step<F: Field>(&mut self, field: &F, sequence: &[u32], i: usize)
+        requires counted { Counted i self.old }
+        requires bounded { Bounded self.old }
         requires within { i < length sequence.now }
         requires short { i < longest_sequence }
-        ensures { result ≡ stepped (F.Field.meaning field.now).arithmetic sequence.now i self }
+        ensures { self.new ≡ stepped (F.Field.meaning field.now).arithmetic sequence.now i self.old }
     {
         let discrepancy = apply(field, &self.pair.f, self.degree, sequence, i - self.degree);
         if discrepancy == 0 {
-            State {
-                d: self.d - 1,
-                ..self
-            }
+            self.d -= 1;
         } else if self.d < 0 {
-            self.change(discrepancy)
-                .update(field, self.kept_discrepancy)
+            let kept_discrepancy = self.kept_discrepancy;
+            self.change(discrepancy);
+            self.update(field, kept_discrepancy);
         } else {
-            self.update(field, discrepancy)
+            self.update(field, discrepancy);
         }
     }
 }
@@ -172,7 +153,7 @@ pub fn realise<F: Field>(
     let mut state = State::new(field);
     // A step takes the place, since it reads the sequence from there back.
     for i in 0..sequence.len() {
-        state = state.step(field, sequence, i);
+        state.step(field, sequence, i);
     }
     f.copy_from_slice(&state.pair.f.coeffs);
     w.copy_from_slice(&state.pair.w.coeffs);

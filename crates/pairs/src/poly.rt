@@ -1,13 +1,14 @@
 // Polynomials over a field, in arrays that never grow.
 ghost use Rattle.std.specs.Prelude.{◌≡◌, ◌<◌};
 ghost use Rattle.algebra.specs.Limits.{coefficients};
-ghost use Rattle.pairs.specs.Poly.{constant, cut, coefficient, combined};
+ghost use Rattle.pairs.specs.Poly.{constant, coefficient, combined, UpTo};
 
 use algebra::COEFFICIENTS;
 use fields::Field;
 
 // Not the `Polynomial` of `filling`: the degree here is that of a pair, and every place is handed out.
-#[derive(Clone, Copy)]
+// Neither `Copy` nor `Clone`: a polynomial changes in its own places.
+#[derive(Drop)]
 pub struct Poly {
     // The constant term first, and zeros above the degree.
     pub coeffs: [u32; COEFFICIENTS],
@@ -21,44 +22,55 @@ impl Poly {
         coeffs[0] = x;
         Poly { coeffs }
     }
+
+    // Puts two polynomials in each other's places.
+    pub fn exchange(&mut self, other: &mut Poly, degree: usize)
+        requires small { degree < coefficients }
+        requires up_to { UpTo degree self.old }
+        requires other_up_to { UpTo degree other.old }
+        ensures self_after { self.new ≡ other.old }
+        ensures other_after { other.new ≡ self.old }
+    {
+        // By place: those above the degree hold zeros in both, and are not touched.
+        for j in 0..degree + 1 {
+            let x = self.coeffs[j];
+            self.coeffs[j] = other.coeffs[j];
+            other.coeffs[j] = x;
+        }
+    }
 }
 
-// a × p − b × X^d × q up to X^degree.
+// a × p − b × X^d × q up to X^degree, in the places of p.
 #[derive(Clone, Copy)]
-pub struct Combination<'a> {
+pub struct Combination {
     pub a: u32,
-    pub p: &'a Poly,
     pub b: u32,
     pub d: usize,
-    pub q: &'a Poly,
     pub degree: usize,
     ghost small: { degree < coefficients },
 }
 
-impl<'a> Combination<'a> {
-    pub fn over<F: Field>(&self, field: &F) -> Poly
-        ensures { result ≡ combined (F.Field.meaning field.now).arithmetic self.now.a self.now.p.now self.now.b self.now.d self.now.q.now self.now.degree }
+impl Combination {
+    pub fn combine<F: Field>(&self, field: &F, p: &mut Poly, q: &Poly)
+        requires { UpTo self.now.degree p.old }
+        ensures { p.new ≡ combined (F.Field.meaning field.now).arithmetic self.now.a p.old self.now.b self.now.d q.now self.now.degree }
     {
-        let mut coeffs = [0; COEFFICIENTS];
-        // By place: what stands above the degree is neither worked out nor written.
+        // By place: those above the degree hold zeros, and are not touched.
         for j in 0..self.degree + 1 {
-            coeffs[j] = self.coefficient(field, j);
+            p.coeffs[j] = self.coefficient(field, p, q, j);
         }
-        Poly { coeffs }
     }
 
     // The coefficient of X^j.
-    fn coefficient<F: Field>(&self, field: &F, j: usize) -> u32
-        ensures { result ≡ cut self.now.degree (coefficient (F.Field.meaning field.now).arithmetic self.now.a self.now.p.now self.now.b self.now.d self.now.q.now) j }
+    fn coefficient<F: Field>(&self, field: &F, p: &Poly, q: &Poly, j: usize) -> u32
+        requires { j < coefficients }
+        ensures { result ≡ coefficient (F.Field.meaning field.now).arithmetic self.now.a p.now self.now.b self.now.d q.now j }
     {
-        if j > self.degree {
-            return 0;
-        }
-        let scaled = field.mul(self.a, self.p.coeffs[j]);
+        let scaled = field.mul(self.a, p.coeffs[j]);
         if j < self.d {
             scaled
         } else {
-            field.sub(scaled, field.mul(self.b, self.q.coeffs[j - self.d]))
+            field.sub(scaled, field.mul(self.b, q.coeffs[j - self.d]))
         }
     }
 }

@@ -4,20 +4,22 @@ use Rattle.fields.specs.Elements.{AllBelow}
 use Rattle.algebra.specs.Limits.{longest_sequence}
 use Rattle.algebra.specs.Meaning.{Arithmetic}
 use Rattle.pairs.specs.declared.minimal_pair.State.{State}
-use Rattle.pairs.specs.MinimalPair.{state_after, stepped, Counted, OfElements}
+use Rattle.pairs.specs.MinimalPair.{state_after, stepped, Counted, Bounded, OfElements}
 use Rattle.algebra.specs.Realisation.{Minimal}
 use Rattle.pairs.proofs.Counting.{counted}
+use Rattle.pairs.proofs.Bounds.{bounded}
 use Rattle.pairs.proofs.PairInvariant.{MinimalState, minimal_after}
 use Rattle.pairs.proofs.minimal_pair.realise.Goals as goal
 
-pub step-state-requires : goal.step-state-requires
-step-state-requires g c =
+pub step-requires-clause-counted : goal.step-requires-clause-counted
+step-requires-clause-counted g c =
     let A = (g.F.Field.meaning c.args.field.now).arithmetic in
-    record {
-      counted = subst⁻¹ (λ (st : State). Counted c.loop-i.i st) c.loop-i.invariant (counted A c.args.sequence.now c.loop-i.i);
-      within = c.loop-i-test.true;
-      short = omega arith;
-    }
+    subst⁻¹ (λ (st : State). Counted c.loop-i.i st) c.loop-i.invariant (counted A c.args.sequence.now c.loop-i.i)
+
+pub step-requires-clause-bounded : goal.step-requires-clause-bounded
+step-requires-clause-bounded g c =
+    let A = (g.F.Field.meaning c.args.field.now).arithmetic in
+    subst⁻¹ Bounded c.loop-i.invariant (bounded A c.args.sequence.now c.loop-i.i)
 
 pub loop-i-init : goal.loop-i-init
 unfolding state_after
@@ -31,7 +33,7 @@ turn A s i before after is made = made ∙ ap (stepped A s i) is
 pub loop-i-preserved : goal.loop-i-preserved
 loop-i-preserved g c =
     let A = (g.F.Field.meaning c.args.field.now).arithmetic in
-    turn A c.args.sequence.now c.loop-i.i c.loop-i.state c.step-state.result c.loop-i.invariant c.step-state.ensures
+    turn A c.args.sequence.now c.loop-i.i c.loop-i.state c.step.new.self c.loop-i.invariant c.step.ensures
     ∙ ap (state_after A c.args.sequence.now) (sym (add-one c.loop-i.i))
 
 pub returns : goal.returns
