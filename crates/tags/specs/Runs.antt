@@ -7,9 +7,9 @@ use Rattle.codes.specs.Code.{Code}
 use Rattle.codes.specs.Cells.{blank_cell, blanks}
 use Rattle.algebra.specs.Limits.{largest_cells}
 use Rattle.codes.specs.declared.cell.Cell.{Cell}
-use Rattle.lines.specs.Lines.{line_number}
+use Rattle.lines.specs.Lines.{LineRead, line_number}
 use Rattle.reading.specs.Reading.{wrong, reach, Near, Reading, read_number}
-use Rattle.tags.specs.Sheet.{width, refusal_of_note, refusal_of_wipe, refusal_of_line, refused}
+use Rattle.tags.specs.Sheet.{width, refusal_of_note, refusal_of_wipe, refusal_of_line, after_line, refused}
 use Rattle.tags.specs.Tags.{note_number, wipe_number}
 use Rattle.tags.specs.Calls.{call_of, sheet_of}
 use Rattle.tags.specs.declared.call.Call.{Call}
@@ -42,7 +42,9 @@ pub record ReadFresh (A : Arithmetic) (code : Code) (sheet : List Cell) (size : 
 abbrev pub Answered : Arithmetic → Code → List Cell → Event → Type 0
 Answered A code sheet (Note cell letter answer) = refused note_number answer ≡ refusal_of_note code cell letter
 Answered A code sheet (Wipe cell answer) = refused wipe_number answer ≡ refusal_of_wipe code cell
-Answered A code sheet (Line text answer) = refused line_number answer ≡ refusal_of_line code (chars text.now)
+Answered A code sheet (Line text answer) =
+    (refused line_number answer ≡ refusal_of_line code (chars text.now))
+    × LineRead code.letters (chars text.now) sheet (after_line code (chars text.now) sheet) answer
 Answered A code sheet (Read size answer buffer) = ReadFresh A code sheet size answer buffer
 
 -- the number that a read into `size` numbers has where it is refused: wrong length, too blank, lost

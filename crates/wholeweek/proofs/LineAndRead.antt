@@ -54,7 +54,7 @@ module _ (A : Arithmetic) (code : Code) (text : Bor (List ℕ)) (events : ℕ) (
   the_law = subst (RunLaw A code) events_are law
 
   pub noted_by : refused line_number noted ≡ refusal_of_line code (chars text.now)
-  noted_by = the_law.answers 0 (Line text noted) refl
+  noted_by = (the_law.answers 0 (Line text noted) refl).0
 
   pub read_by : refusal_of_line code (chars text.now) ≡ None → Reading A code (marked_cells code.letters (chars text.now)) (take 20 fresh_buffer) (take 20 buffer) answer
   read_by accepted =
