@@ -220,8 +220,8 @@ fn read_case<F: LetteredField + Drop>(case: Case<'_>, field: F) -> anyhow::Resul
     }
 }
 
-// The calls that note the cells of a text, and a read into a buffer of `length` numbers. `week` has the like: the library allocates
-// nothing, so a list of calls is a program's.
+// The calls that note the cells of a text, and a read into a buffer of `length` numbers. The library allocates nothing, so a list of
+// calls is a program's.
 fn note_calls(heap: Global, text: &str, length: usize) -> anyhow::Result<Vec<Call<'static>>> {
     let cells = read_cells(heap, text)?;
     let mut calls = Vec::new(heap);

@@ -1,66 +1,65 @@
-// Later in the week: what was found on the tag is noted, and the tag is read.
-use anyhow::bail;
-use codes::{Cell, Word};
+// Friday, before a coin is lifted: the line that was found is noted, and the tag is read.
+ghost use Rattle.std.specs.Prelude.{◌≡◌, ℕ, ◌≤◌, length, take};
+ghost use Rattle.std.specs.Str.{chars};
+ghost use Rattle.tags.specs.Calls.{call_of};
+ghost use Rattle.tags.specs.declared.call.Call.TheVariants.{Line as line_call, Read as read_call};
+ghost use Rattle.tags.specs.declared.event.Event.TheVariants.{Line as line_event, Read as read_event};
+ghost use Rattle.week.specs.Found.{FoundOn};
+
+use crate::found::{TagRead, Unread};
 use house::inked_card;
 use inkedtag::CELLS;
+use lines::LineRefusal;
 use reading::{Counts, ReadRefusal};
-use std::alloc::{AllocError, Global};
-use std::fmt;
-use tags::{Call, Event, play_script};
+use tags::{BUFFER, Call, Event, play_script};
 
-// The word that the read showed, how many cells are wrong and how many blank.
-#[derive(Clone, Copy)]
-pub struct TagRead {
-    counts: Counts,
-    word: [u32; CELLS],
-}
-
-// A freshly opened inked tag is noted with the cells and read.
-pub fn read_found(
-    heap: Global,
-    cells: &[Cell; CELLS],
-) -> anyhow::Result<Result<TagRead, ReadRefusal>> {
+// What an inked tag reads as on which this line was found.
+pub fn read_found(line: &str) -> Result<TagRead, Unread>
+    ensures { FoundOn (chars line.now) result }
+{
     let card = inked_card();
-    let calls = calls_of(heap, cells)?;
+    let calls = [Call::Line { text: line }, Call::Read { length: CELLS }];
     let unused = Event::Wipe {
         cell: 1,
         answer: Ok(()),
     };
-    let mut journal = vec![in heap; unused; calls.len()]?;
-    play_script(&card, calls.as_slice(), journal.as_mut_slice());
-    let Some(Event::Read { answer, buffer, .. }) = journal.last().copied() else {
-        bail!("the last call was no read")
-    };
+    let mut journal = [unused; 2];
+    play_script(&card, &calls, &mut journal);
+    let noted = line_answer(journal[0]);
+    let (answer, buffer) = read_answer(journal[1]);
+    noted?;
+    let counts = answer?;
+    Ok(TagRead {
+        counts,
+        word: front(&buffer),
+    })
+}
+
+// The answer of an event of a line.
+fn line_answer(event: Event<'_>) -> Result<(), LineRefusal>
+    ensures { (text : _) → call_of event.entry ≡ line_call text → event.entry ≡ line_event text result }
+{
+    match event {
+        Event::Line { answer, .. } => answer,
+        _ => Ok(()),
+    }
+}
+
+// The answer of an event of a read, and the buffer after it.
+fn read_answer(event: Event<'_>) -> (Result<Counts, ReadRefusal>, [u32; BUFFER])
+    ensures { (size : ℕ) → call_of event.entry ≡ read_call size → event.entry ≡ read_event size result.0 result.1 }
+{
+    match event {
+        Event::Read { answer, buffer, .. } => (answer, buffer),
+        _ => (Err(ReadRefusal::Lost), [0; BUFFER]),
+    }
+}
+
+// The first numbers of a buffer, one for each cell.
+fn front(buffer: &[u32; BUFFER]) -> [u32; CELLS]
+    ensures { result ≡ take 20 buffer.now }
+{
     let mut word = [0; CELLS];
     word.copy_from_slice(&buffer[0..CELLS]);
-    Ok(answer.map(|counts| TagRead { counts, word }))
-}
-
-// A note for each noted cell, and a read. `vectors` has the like: the library allocates nothing, so a list of calls is a program's.
-fn calls_of(heap: Global, cells: &[Cell; CELLS]) -> Result<Vec<Call<'static>>, AllocError> {
-    let mut calls = Vec::new(heap);
-    for (j, cell) in cells.iter().enumerate() {
-        if let Some(letter) = cell.letter {
-            calls.push(Call::Note {
-                cell: j.saturating_add(1),
-                letter,
-            })?;
-        }
-    }
-    calls.push(Call::Read { length: CELLS })?;
-    Ok(calls)
-}
-
-impl fmt::Display for TagRead {
-    fn fmt<W: fmt::Write>(&self, f: &mut fmt::Formatter<W>) -> fmt::Result {
-        let wrong = self.counts.wrong;
-        let blank = self.counts.blank;
-        let word = Word {
-            letters: &self.word,
-        };
-        write!(
-            f,
-            "it reads, with {wrong} wrong and {blank} blank:\n  letters:{word}"
-        )
-    }
+    word
 }

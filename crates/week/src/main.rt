@@ -1,15 +1,20 @@
-// The week of one inked tag: on Monday its letters are encoded and inked, later a line of marks is found on it.
+// The week of one inked tag: on Monday its letters are encoded and inked, later ink bleeds and goes, and on Friday the tag is read.
 #![tactic(auto)]
 
+mod found;
 mod friday;
+mod marks;
+mod saturday;
 
 use friday::read_found;
 use house::INKED;
 use inkedtag::{
     CELLS, ROWS, RefusedData, RefusedLine, ink, inspect_cells, inspect_line, noted_cells,
 };
+use saturday::file_tag;
+use traylines::print_lines;
 
-// The next line of the input, without its end. `wholeweek` has the like, since only programs read input.
+// The next line of the input, without its end.
 fn next_line(rt: &HostRuntime, input: &mut String) -> anyhow::Result<()> {
     input.clear();
     rt.read_line(input)?;
@@ -30,11 +35,22 @@ fn run(rt: &HostRuntime) -> anyhow::Result<()> {
     let line = input.as_str().trim_end();
     let found = inspect_line(line).map_err(|refusal| RefusedLine::new(refusal, CELLS, line))?;
     println!(rt; "later, {line} is found:\n{found}")?;
-    match read_found(rt.alloc(), &found.cells)? {
+    println!(rt; "Friday, before a coin is lifted, the line is noted and the tag is read:")?;
+    match read_found(line) {
         Ok(read) => println!(rt; "{read}")?,
+        Err(unread) => println!(rt; "{unread}")?,
+    }
+    match file_tag(&found.cells) {
+        Ok(file) => {
+            let length = file.len();
+            println!(rt;
+                "Saturday, card and cells go into a tray file of {length} bytes, and it reads:"
+            )?;
+            print_lines(rt, file.as_slice())?;
+        }
         Err(refusal) => {
             let number = refusal.number();
-            println!(rt; "it does not read: {number} {refusal}")?;
+            println!(rt; "Saturday, the cells are not filed: {number} {refusal}")?;
         }
     }
     Ok(())

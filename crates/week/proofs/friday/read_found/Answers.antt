@@ -11,12 +11,12 @@ use Rattle.lines.specs.Lines.{line_number}
 use Rattle.tags.specs.Runs.{fresh_buffer}
 use Rattle.tags.specs.Sheet.{refusal_of_line, marked_cells, refused}
 use Rattle.std.specs.Result.{IsErrAnd}
-use Rattle.wholeweek.specs.declared.found.TagRead.{TagRead}
-use Rattle.wholeweek.specs.declared.found.Unread.{Unread}
-use Rattle.wholeweek.specs.declared.found.Unread.TheVariants.{Line, Read}
-use Rattle.wholeweek.specs.Found.{empty_word, FoundOn}
-use Rattle.wholeweek.proofs.LineAndRead.{noted_by, read_under, refused_in, granted_in}
-use Rattle.wholeweek.proofs.friday.read_found.Goals as goal
+use Rattle.week.specs.declared.found.TagRead.{TagRead}
+use Rattle.week.specs.declared.found.Unread.{Unread}
+use Rattle.week.specs.declared.found.Unread.TheVariants.{Line, Read}
+use Rattle.week.specs.Found.{empty_word, FoundOn}
+use Rattle.week.proofs.LineAndRead.{noted_by, read_under, refused_in, granted_in}
+use Rattle.week.proofs.friday.read_found.Goals as goal
 
 broken : (marks : List ℕ) (r : Result TagRead Unread) (unread : Unread) → IsErrAnd r (λ e. e ≡ unread) → FoundOn marks (Err unread) → FoundOn marks r
 broken marks (Ok read) unread same found = absurd same

@@ -12,7 +12,7 @@ use Rattle.traywriter.specs.Writing.{Put, RecordWritten}
 use Rattle.traywriter.specs.Writers.{CellsWritten}
 use Rattle.traywriter.specs.declared.write_refusal.WriteRefusal.{WriteRefusal}
 use Rattle.traywriter.specs.declared.write_refusal.WriteRefusal.TheVariants.{NoLetter, WrongLength, BadNote, TooSmall}
-use Rattle.wholeweek.specs.Filed.{card_record, cells_record, FiledTag}
+use Rattle.week.specs.Filed.{card_record, cells_record, FiledTag}
 
 inked_refused : (cells : List Cell) (before after : List ℕ) (refusal : WriteRefusal) → length before ≡ 128 → RecordWritten (kind_number Card) (card_body prime_kind 37 (row_code inked)) before after (Err refusal) → FiledTag cells (Err refusal)
 unfolding card_record

@@ -1,6 +1,6 @@
 // What an inked tag reads as.
 ghost use Rattle.std.specs.Prelude.{◌≡◌};
-ghost use Rattle.wholeweek.specs.declared.found.Unread.TheVariants.{Line as not_noted, Read as not_read};
+ghost use Rattle.week.specs.declared.found.Unread.TheVariants.{Line as not_noted, Read as not_read};
 
 use crate::marks::mark_of;
 use codes::Word;

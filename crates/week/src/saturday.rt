@@ -1,5 +1,5 @@
 // Saturday: the tag's card and its cells go into a tray file.
-ghost use Rattle.wholeweek.specs.Filed.{FiledTag};
+ghost use Rattle.week.specs.Filed.{FiledTag};
 
 use arrayvec::ArrayVec;
 use codes::{AnyCard, Cell};

@@ -5,9 +5,9 @@ use Rattle.house.specs.HouseRows.{inked, row_code}
 use Rattle.reading.specs.Reading.{Reading}
 use Rattle.lines.specs.Lines.{line_number}
 use Rattle.tags.specs.Sheet.{refusal_of_line, marked_cells}
-use Rattle.wholeweek.specs.declared.found.TagRead.{TagRead}
-use Rattle.wholeweek.specs.declared.found.Unread.{Unread}
-use Rattle.wholeweek.specs.declared.found.Unread.TheVariants.{Line, Read}
+use Rattle.week.specs.declared.found.TagRead.{TagRead}
+use Rattle.week.specs.declared.found.Unread.{Unread}
+use Rattle.week.specs.declared.found.Unread.TheVariants.{Line, Read}
 
 -- a buffer for the word
 abbrev pub empty_word : List ℕ

@@ -5,9 +5,9 @@ use Rattle.arrayvec.specs.ArrayVec.{ArrayVec}
 use Rattle.arrayvec.specs.declared.errors.CapacityError.{CapacityError}
 use Rattle.codes.specs.declared.cell.Cell.{Cell}
 use Rattle.traywriter.specs.declared.write_refusal.WriteRefusal.{WriteRefusal}
-use Rattle.wholeweek.specs.Filed.{card_record, cells_record, FiledTag}
-use Rattle.wholeweek.proofs.FiledTags.{card_refused, cells_refused, card_put, both}
-use Rattle.wholeweek.proofs.saturday.file_tag.Goals as goal
+use Rattle.week.specs.Filed.{card_record, cells_record, FiledTag}
+use Rattle.week.proofs.FiledTags.{card_refused, cells_refused, card_put, both}
+use Rattle.week.proofs.saturday.file_tag.Goals as goal
 
 broken : (cells : List Cell) (r : Result (ArrayVec ℕ) WriteRefusal) (refusal : WriteRefusal) → IsErrAnd r (λ e. e ≡ refusal) → FiledTag cells (Err refusal) → FiledTag cells r
 broken cells (Ok file) refusal same filed = absurd same

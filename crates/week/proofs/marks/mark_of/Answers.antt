@@ -1,7 +1,7 @@
 use Rattle.std.proofs.Common.{rules, ◌≡◌, get_or, ap, ◌∙◌}
 use Rattle.lines.specs.Marks.{cell_of_mark}
-use Rattle.wholeweek.proofs.MarkTable.{mark_at, table}
-use Rattle.wholeweek.proofs.marks.mark_of.Goals as goal
+use Rattle.week.proofs.MarkTable.{mark_at, table}
+use Rattle.week.proofs.marks.mark_of.Goals as goal
 
 pub returns : goal.returns
 unfolding table
