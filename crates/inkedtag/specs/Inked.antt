@@ -1,12 +1,11 @@
 -- What is inked for a line of data letters. Assumes nothing.
-use Rattle.std.specs.Prelude.{◌≡◌, ℕ, ◌<◌, List, length, replicate, None, Ok, Err, Result, ◌≢◌, slice_index_or}
-use Rattle.algebra.specs.Meaning.{with_inverses}
-use Rattle.fields.specs.Modulo.{modulo}
+use Rattle.std.specs.Prelude.{◌≡◌, ℕ, ◌<◌, List, length, None, Ok, Err, Result, ◌≢◌, slice_index_or}
 use Rattle.codes.specs.Cells.{blank_cell, noted}
-use Rattle.house.specs.HouseRows.{inked, row_code}
 use Rattle.codes.specs.declared.cell.Cell.{Cell}
 use Rattle.filling.specs.Encodings.{Encodes}
-use Rattle.lines.specs.Lines.{LineRead, Marked}
+use Rattle.lines.specs.Lines.{LineRead}
+use Rattle.lines.specs.declared.line.LineRefusal.{LineRefusal}
+use Rattle.inkedtag.specs.InkedTag.{inked_code, inked_meaning, inked_letters, inked_data, blank_cells}
 use Rattle.inkedtag.specs.declared.monday.DataRefusal.{DataRefusal}
 use Rattle.inkedtag.specs.declared.monday.DataRefusal.TheVariants.{Line, Blank}
 
@@ -22,9 +21,13 @@ LettersOf cells (Ok letters) = cells ≡ noted letters
 LettersOf cells (Err (Blank place)) = FirstBlank cells place
 LettersOf cells (Err (Line refusal)) = ⊥
 
+-- what comes of reading the marks into a cell for each data letter
+abbrev pub DataRead : List ℕ → List Cell → Result (Unit {0}) LineRefusal → Type 0
+DataRead marks cells answer = LineRead inked_letters marks (blank_cells inked_data) cells answer
+
 -- The word is the only codeword of the inked card that begins with the letters that the marks stand for. A line that is
 -- refused as such, or has a blank, inks nothing.
 abbrev pub InkedBy : List ℕ → Result (List ℕ) DataRefusal → Type 0
-InkedBy marks (Ok word) = (letters : List ℕ) × Marked 37 marks (noted letters) × Encodes (with_inverses (modulo 37)) (row_code inked) letters word
-InkedBy marks (Err (Line refusal)) = LineRead 37 marks (replicate 12 blank_cell) (replicate 12 blank_cell) (Err refusal)
-InkedBy marks (Err (Blank place)) = (cells : List Cell) × Marked 37 marks cells × FirstBlank cells place
+InkedBy marks (Ok word) = (letters : List ℕ) × DataRead marks (noted letters) (Ok tt) × Encodes inked_meaning inked_code letters word
+InkedBy marks (Err (Line refusal)) = DataRead marks (blank_cells inked_data) (Err refusal)
+InkedBy marks (Err (Blank place)) = (cells : List Cell) × DataRead marks cells (Ok tt) × FirstBlank cells place

@@ -1,22 +1,24 @@
 -- What is said of a line of marks on the inked card. Assumes nothing.
-use Rattle.std.specs.Prelude.{◌≡◌, ℕ, List, replicate, Ok, Err, Result}
-use Rattle.fields.specs.Modulo.{modulo}
-use Rattle.codes.specs.Cells.{blank_cell}
+use Rattle.std.specs.Prelude.{◌≡◌, ℕ, List, Ok, Err, Result}
 use Rattle.codes.specs.declared.cell.Cell.{Cell}
 use Rattle.codes.specs.Sums.{syndromes}
 use Rattle.codes.specs.Verdicts.{Judged}
-use Rattle.house.specs.HouseRows.{inked, row_code}
-use Rattle.lines.specs.Lines.{LineRead, Marked}
+use Rattle.lines.specs.Lines.{LineRead}
 use Rattle.lines.specs.declared.line.LineRefusal.{LineRefusal}
+use Rattle.inkedtag.specs.InkedTag.{inked_code, inked_arithmetic, inked_letters, inked_cells, blank_cells}
 use Rattle.inkedtag.specs.declared.inspect.Inspection.{Inspection}
 
--- The sums are those of the cells modulo 37, and the verdict is true of them.
+-- The sums are those of the cells over the card's field, and the verdict is true of them.
 pub record InspectedCells (cells : List Cell) (i : Inspection) : Type 0 where
   pub cells_are : i.cells ≡ cells
-  pub sums_are : i.sums ≡ syndromes (modulo 37) (row_code inked) cells
-  pub verdict_is : Judged (modulo 37) (row_code inked) cells i.verdict
+  pub sums_are : i.sums ≡ syndromes inked_arithmetic inked_code cells
+  pub verdict_is : Judged inked_arithmetic inked_code cells i.verdict
+
+-- what comes of reading the marks into a cell for each of the card's
+abbrev pub CellsRead : List ℕ → List Cell → Result (Unit {0}) LineRefusal → Type 0
+CellsRead marks cells answer = LineRead inked_letters marks (blank_cells inked_cells) cells answer
 
 -- The cells are those that the marks stand for. A refused line is refused as reading it is.
 abbrev pub Inspected : List ℕ → Result Inspection LineRefusal → Type 0
-Inspected marks (Ok i) = Marked 37 marks i.cells × InspectedCells i.cells i
-Inspected marks (Err refusal) = LineRead 37 marks (replicate 20 blank_cell) (replicate 20 blank_cell) (Err refusal)
+Inspected marks (Ok i) = CellsRead marks i.cells (Ok tt) × InspectedCells i.cells i
+Inspected marks (Err refusal) = CellsRead marks (blank_cells inked_cells) (Err refusal)

@@ -1,2 +1,4 @@
+pub mod InkedTag
 pub mod Inspected
 pub mod Inked
+pub mod Texts

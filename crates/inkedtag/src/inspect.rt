@@ -1,8 +1,9 @@
 // What a line of marks is on the inked card.
 ghost use Rattle.std.specs.Str.{chars};
-ghost use Rattle.std.specs.Prelude.{◌≡◌};
+ghost use Rattle.std.specs.Prelude.{◌≡◌, Some};
 ghost use Rattle.codes.specs.Cells.{noted};
 ghost use Rattle.inkedtag.specs.Inspected.{Inspected, InspectedCells};
+ghost use Rattle.inkedtag.specs.Texts.{inspection_text};
 
 use codes::{Cell, CellRow, Verdict, Word};
 use house::{INKED, inked_card};
@@ -52,16 +53,18 @@ pub fn noted_cells(word: &[u32; CELLS]) -> [Cell; CELLS]
 }
 
 impl fmt::Display for Inspection {
+    ghost output = { λ i. Some (inspection_text i) };
+
     fn fmt<W: fmt::Write>(&self, f: &mut fmt::Formatter<W>) -> fmt::Result {
         let cells = CellRow { cells: &self.cells };
         let sums = Word {
             letters: &self.sums,
         };
-        write!(f, "  cells:{cells}\n  sums:{sums}")?;
+        write!(f, "  cells:{cells}\n  sums:{sums}\n")?;
         match self.verdict {
-            Verdict::Codeword => write!(f, "\n  a codeword"),
-            Verdict::Unfinished { blanks } => write!(f, "\n  unfinished, blank cells: {blanks}"),
-            Verdict::Damaged => write!(f, "\n  damaged"),
+            Verdict::Codeword => write!(f, "  a codeword"),
+            Verdict::Unfinished { blanks } => write!(f, "  unfinished, blank cells: {blanks}"),
+            Verdict::Damaged => write!(f, "  damaged"),
         }
     }
 }

@@ -7,4 +7,4 @@ mod refused;
 
 pub use inspect::{CELLS, Inspection, ROWS, inspect_cells, inspect_line, noted_cells};
 pub use monday::{DATA, DataRefusal, ink};
-pub use refused::{RefusedData, RefusedLine};
+pub use refused::{LineWord, RefusedData, RefusedLine};

@@ -1,11 +1,9 @@
 // Monday: the data letters are encoded, and all cells are inked.
 ghost use Rattle.std.specs.Str.{chars};
 ghost use Rattle.std.specs.Prelude.{◌≡◌};
-ghost use Rattle.algebra.specs.Meaning.{with_inverses};
-ghost use Rattle.fields.specs.Modulo.{modulo};
 ghost use Rattle.fields.specs.Elements.{AllBelow};
-ghost use Rattle.house.specs.HouseRows.{inked, row_code};
 ghost use Rattle.filling.specs.Encodings.{Encodes};
+ghost use Rattle.inkedtag.specs.InkedTag.{inked_code, inked_meaning, inked_letters};
 ghost use Rattle.inkedtag.specs.Inked.{InkedBy, LettersOf};
 ghost use Rattle.inkedtag.specs.declared.monday.DataRefusal.TheVariants.{Line as line_refused};
 
@@ -60,8 +58,8 @@ fn letters_of(cells: &[Cell; DATA]) -> Result<[u32; DATA], DataRefusal>
 
 // The only codeword that begins with the letters.
 fn encoded(letters: &[u32; DATA]) -> [u32; CELLS]
-    requires { AllBelow 37 letters.now }
-    ensures { Encodes (with_inverses (modulo 37)) (row_code inked) letters.now result }
+    requires { AllBelow inked_letters letters.now }
+    ensures { Encodes inked_meaning inked_code letters.now result }
 {
     let card = inked_card();
     let mut word = [0; CELLS];

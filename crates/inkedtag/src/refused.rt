@@ -1,11 +1,32 @@
 // How a refused line looks on paper.
-ghost use Rattle.std.specs.Prelude.{◌≡◌, length};
+ghost use Rattle.std.specs.Prelude.{◌≡◌, Some, length};
 ghost use Rattle.std.specs.Str.{chars};
+ghost use Rattle.inkedtag.specs.Texts.{line_word, refused_line_text, refused_data_text};
 
 use crate::monday::{DATA, DataRefusal};
 use lines::{LineRefusal, count_marks};
 use std::error::Error;
 use std::fmt;
+
+// The number of a line's refusal and its word. The library's words stand in a derive, which states no bytes.
+#[derive(Clone, Copy)]
+pub struct LineWord {
+    pub refusal: LineRefusal,
+}
+
+impl fmt::Display for LineWord {
+    ghost output = { λ w. Some (line_word w.refusal) };
+
+    fn fmt<W: fmt::Write>(&self, f: &mut fmt::Formatter<W>) -> fmt::Result {
+        let number = self.refusal.number();
+        match self.refusal {
+            LineRefusal::WrongLength => write!(f, "{number} wrong length"),
+            LineRefusal::UnmarkedAlphabet | LineRefusal::BadMark { .. } => {
+                write!(f, "{number} bad mark")
+            }
+        }
+    }
+}
 
 // A line that was refused where some number of marks was wanted.
 #[derive(Clone, Copy, Debug)]
@@ -32,11 +53,14 @@ impl RefusedLine {
 impl Error for RefusedLine {}
 
 impl fmt::Display for RefusedLine {
+    ghost output = { λ l. Some (refused_line_text l) };
+
     fn fmt<W: fmt::Write>(&self, f: &mut fmt::Formatter<W>) -> fmt::Result {
-        let refusal = self.refusal;
-        let number = refusal.number();
-        write!(f, "{number} {refusal}: ")?;
-        match refusal {
+        let word = LineWord {
+            refusal: self.refusal,
+        };
+        write!(f, "{word}: ")?;
+        match self.refusal {
             LineRefusal::WrongLength => {
                 let wanted = self.wanted;
                 let marks = self.marks;
@@ -71,6 +95,8 @@ impl RefusedData {
 impl Error for RefusedData {}
 
 impl fmt::Display for RefusedData {
+    ghost output = { λ d. Some (refused_data_text d) };
+
     fn fmt<W: fmt::Write>(&self, f: &mut fmt::Formatter<W>) -> fmt::Result {
         match self.refusal {
             DataRefusal::Line(refusal) => {

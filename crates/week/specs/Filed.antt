@@ -1,9 +1,10 @@
 -- What goes into a tray file of an inked tag. Assumes nothing.
-use Rattle.std.specs.Prelude.{◌≡◌, ℕ, ◌+◌, ◌<◌, List, ◌++◌, length, take, Ok, Err, Result}
+use Rattle.std.specs.Prelude.{◌≡◌, ℕ, ◌+◌, ◌<◌, List, ◌++◌, length, Ok, Err, Result}
 use Rattle.fields.specs.Kinds.{prime_kind}
 use Rattle.codes.specs.Verdicts.{Lettered}
 use Rattle.codes.specs.declared.cell.Cell.{Cell}
-use Rattle.house.specs.HouseRows.{inked, row_code}
+use Rattle.house.specs.HouseRows.{inked}
+use Rattle.inkedtag.specs.InkedTag.{inked_code, inked_letters}
 use Rattle.bodies.specs.CardBodies.{card_body}
 use Rattle.bodies.specs.CellBodies.{cells_body}
 use Rattle.trayfile.specs.Entries.{record_bytes}
@@ -15,16 +16,20 @@ use Rattle.arrayvec.specs.ArrayVec.{ArrayVec}
 
 -- the record of the inked card
 unfoldable pub card_record : List ℕ
-card_record = record_bytes (kind_number Card) (card_body prime_kind 37 (row_code inked))
+card_record = record_bytes (kind_number Card) (card_body prime_kind inked.origin inked_code)
 
 -- the record of cells
 unfoldable pub cells_record : List Cell → List ℕ
 cells_record cells = record_bytes (kind_number Cells) (cells_body cells)
 
+-- the longest file that is made
+abbrev pub file_room : ℕ
+file_room = 128
+
 -- The file is the card's record and the cells'. It is refused where a cell holds no letter, or where both are longer than the room.
 abbrev pub FiledTag : List Cell → Result (ArrayVec ℕ) WriteRefusal → Type 0
 FiledTag cells (Ok file) = file.items ≡ card_record ++ cells_record cells
-FiledTag cells (Err NoLetter) = Lettered 37 cells → ⊥
-FiledTag cells (Err TooSmall) = 128 < length card_record + length (cells_record cells)
+FiledTag cells (Err NoLetter) = Lettered inked_letters cells → ⊥
+FiledTag cells (Err TooSmall) = file_room < length card_record + length (cells_record cells)
 FiledTag cells (Err WrongLength) = ⊥
 FiledTag cells (Err BadNote) = ⊥

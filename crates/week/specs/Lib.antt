@@ -1,2 +1,4 @@
 pub mod Found
 pub mod Filed
+pub mod MarkTexts
+pub mod Texts

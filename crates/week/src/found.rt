@@ -1,10 +1,11 @@
 // What an inked tag reads as.
-ghost use Rattle.std.specs.Prelude.{◌≡◌};
+ghost use Rattle.std.specs.Prelude.{◌≡◌, Some};
+ghost use Rattle.week.specs.Texts.{tag_text, read_word, unread_text};
 ghost use Rattle.week.specs.declared.found.Unread.TheVariants.{Line as not_noted, Read as not_read};
 
-use crate::marks::mark_of;
+use crate::marks::Marks;
 use codes::Word;
-use inkedtag::CELLS;
+use inkedtag::{CELLS, LineWord};
 use lines::LineRefusal;
 use reading::{Counts, ReadRefusal};
 use std::fmt;
@@ -40,34 +41,51 @@ impl From<ReadRefusal> for Unread {
 }
 
 impl fmt::Display for TagRead {
+    ghost output = { λ r. Some (tag_text r) };
+
     fn fmt<W: fmt::Write>(&self, f: &mut fmt::Formatter<W>) -> fmt::Result {
         let wrong = self.counts.wrong;
         let blank = self.counts.blank;
         let word = Word {
             letters: &self.word,
         };
-        write!(
-            f,
-            "  corrected: {wrong}, filled: {blank}\n  letters:{word}\n  marks: "
-        )?;
-        for letter in &self.word {
-            let mark = mark_of(*letter);
-            write!(f, "{mark}")?;
+        let marks = Marks { word: &self.word };
+        write!(f, "  corrected: {wrong}, filled: {blank}\n")?;
+        write!(f, "  letters:{word}\n  marks: {marks}")
+    }
+}
+
+// The number of a read's refusal and its word, as `LineWord` has a line's.
+#[derive(Clone, Copy)]
+struct ReadWord {
+    refusal: ReadRefusal,
+}
+
+impl fmt::Display for ReadWord {
+    ghost output = { λ w. Some (read_word w.refusal) };
+
+    fn fmt<W: fmt::Write>(&self, f: &mut fmt::Formatter<W>) -> fmt::Result {
+        let number = self.refusal.number();
+        match self.refusal {
+            ReadRefusal::WrongLength => write!(f, "{number} wrong length"),
+            ReadRefusal::TooBlank => write!(f, "{number} too blank"),
+            ReadRefusal::Lost => write!(f, "{number} lost"),
         }
-        Ok(())
     }
 }
 
 impl fmt::Display for Unread {
+    ghost output = { λ u. Some (unread_text u) };
+
     fn fmt<W: fmt::Write>(&self, f: &mut fmt::Formatter<W>) -> fmt::Result {
-        match self {
+        match *self {
             Unread::Line(refusal) => {
-                let number = refusal.number();
-                write!(f, "  the line is not noted: {number} {refusal}")
+                let word = LineWord { refusal };
+                write!(f, "  the line is not noted: {word}")
             }
             Unread::Read(refusal) => {
-                let number = refusal.number();
-                write!(f, "  it does not read: {number} {refusal}")
+                let word = ReadWord { refusal };
+                write!(f, "  it does not read: {word}")
             }
         }
     }

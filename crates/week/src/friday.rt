@@ -4,6 +4,7 @@ ghost use Rattle.std.specs.Str.{chars};
 ghost use Rattle.tags.specs.Calls.{call_of};
 ghost use Rattle.tags.specs.declared.call.Call.TheVariants.{Line as line_call, Read as read_call};
 ghost use Rattle.tags.specs.declared.event.Event.TheVariants.{Line as line_event, Read as read_event};
+ghost use Rattle.inkedtag.specs.InkedTag.{inked_cells};
 ghost use Rattle.week.specs.Found.{FoundOn};
 
 use crate::found::{TagRead, Unread};
@@ -57,7 +58,7 @@ fn read_answer(event: Event<'_>) -> (Result<Counts, ReadRefusal>, [u32; BUFFER])
 
 // The first numbers of a buffer, one for each cell.
 fn front(buffer: &[u32; BUFFER]) -> [u32; CELLS]
-    ensures { result ≡ take 20 buffer.now }
+    ensures { result ≡ take inked_cells buffer.now }
 {
     let mut word = [0; CELLS];
     word.copy_from_slice(&buffer[0..CELLS]);

@@ -11,6 +11,7 @@ use house::INKED;
 use inkedtag::{
     CELLS, ROWS, RefusedData, RefusedLine, ink, inspect_cells, inspect_line, noted_cells,
 };
+use marks::Marks;
 use saturday::file_tag;
 use traylines::print_lines;
 
@@ -30,7 +31,8 @@ fn run(rt: &HostRuntime) -> anyhow::Result<()> {
     let line = input.as_str().trim_end();
     let word = ink(line).map_err(|refusal| RefusedData::new(refusal, line))?;
     let inked = inspect_cells(noted_cells(&word));
-    println!(rt; "Monday, {line} is inked:\n{inked}")?;
+    let marks = Marks { word: &word };
+    println!(rt; "Monday, {line} is inked as {marks}:\n{inked}")?;
     next_line(rt, &mut input)?;
     let line = input.as_str().trim_end();
     let found = inspect_line(line).map_err(|refusal| RefusedLine::new(refusal, CELLS, line))?;

@@ -5,6 +5,6 @@ use Rattle.week.proofs.marks.mark_of.Goals as goal
 
 pub returns : goal.returns
 unfolding table
-returns c h =
+returns c =
     let found : c.unwrap_or.result ≡ get_or table c.args.letter 63 = search rules in
-    ap cell_of_mark found ∙ mark_at c.args.letter 63 h
+    record { shown = found; stands = λ h. ap cell_of_mark found ∙ mark_at c.args.letter 63 h }
