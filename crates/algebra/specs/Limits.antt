@@ -1,9 +1,13 @@
 -- The largest sizes, each named once. Assumes nothing.
-use Rattle.std.specs.Prelude.{ℕ, ◌+◌}
+use Rattle.std.specs.Prelude.{ℕ, ◌+◌, ◌^◌}
+
+-- the most elements that a field may have are a power of 2, by this exponent
+abbrev pub size_bits : ℕ
+size_bits = 8
 
 -- the most elements that a field may have
 abbrev pub largest_size : ℕ
-largest_size = 256
+largest_size = 2 ^ size_bits
 
 -- the most cells that a card may have
 abbrev pub largest_cells : ℕ

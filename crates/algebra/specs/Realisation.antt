@@ -1,13 +1,13 @@
 -- Which polynomials fit a sequence, their partners, and minimal pairs. Polynomials are lists of coefficients, the
 -- constant term first; past the end of a list stands 0. Assumes nothing.
-use Rattle.std.specs.Prelude.{◌≡◌, ℕ, suc, ◌+◌, ◌-◌, ◌<◌, ◌≤◌, List, length, slice_index, slice_index_or}
+use Rattle.std.specs.Prelude.{◌≡◌, ◌≢◌, ℕ, suc, ◌+◌, ◌-◌, ◌<◌, ◌≤◌, List, length, slice_index}
 use Rattle.algebra.specs.Meaning.{Arithmetic}
 use Rattle.algebra.specs.Power.{sum}
 
 -- f has degree m: its coefficients are elements, that of X^m is not 0, and those above are 0. So f is not 0.
 pub record Degree (A : Arithmetic) (f : List ℕ) (m : ℕ) : Type 0 where
   pub elements : (j : ℕ) → slice_index f j < A.size
-  pub leads : slice_index_or f m 0 ≡ 0 → ⊥
+  pub leads : slice_index f m ≢ 0
   pub above : (j : ℕ) → m < j → slice_index f j ≡ 0
 
 -- f_0 × s_k + .. + f_m × s_(k+m)

@@ -1,7 +1,10 @@
 // The largest sizes, each named once; specs/Limits.antt has the same for the contracts, which hold the two together.
 
+// The most elements that a field may have are a power of 2, by this exponent.
+const SIZE_BITS: u32 = 8;
+
 // The most elements that a field may have.
-pub const LARGEST_SIZE: u32 = 256;
+pub const LARGEST_SIZE: u32 = 1 << SIZE_BITS;
 
 // The most cells that a card may have.
 pub const LARGEST_CELLS: usize = 256;

@@ -6,7 +6,8 @@ use Rattle.algebra.specs.Alphabet.{Alphabet}
 use Rattle.algebra.specs.Limits.{largest_size}
 use Rattle.fields.specs.Modulo.{Listed, modulo}
 use Rattle.fields.specs.BinaryArithmetic.{modulo_polynomial}
-use Rattle.fields.specs.Binary.{BinaryModulus, binary_meaning}
+use Rattle.fields.specs.Binary.{BinaryModulus, NoModulus, binary_meaning}
+use Rattle.fields.specs.BinaryModulus.{no_modulus}
 use Rattle.fields.specs.Prime.{prime_meaning}
 use Rattle.fields.specs.LongDivision.{Degree}
 use Rattle.fields.specs.declared.prime_field.PrimeField.{PrimeField}
@@ -226,7 +227,7 @@ module _ (body : List ℕ) (card : cards.Card BinaryField binary_field.ghosts) (
   binary_head_never (Field NoSuchField) (other, stood, not-prime, not-binary) = not-binary (binary_heads other stood).0
   binary_head_never (Field (Made NoPrime)) (other, stood, kind, not_listed) = never_kinds other.kind kind (binary_heads other stood).0
   binary_head_never (Field (Made BadModulus)) (other, stood, kind, none) =
-      none card.field.degree (subst (λ f. BinaryModulus f card.field.degree) (sym (binary_heads other stood).1) modulus_is)
+      no_modulus card.field.modulus card.field.degree (subst NoModulus (binary_heads other stood).1 none) modulus_is
   binary_head_never BadNote broken = broken
   binary_head_never (Card cause) broken = broken
   binary_head_never (Tag cause) broken = broken

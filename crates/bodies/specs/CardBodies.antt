@@ -4,7 +4,7 @@ use Rattle.algebra.specs.Meaning.{Meaning}
 use Rattle.algebra.specs.Alphabet.{Alphabet}
 use Rattle.fields.specs.Modulo.{Listed}
 use Rattle.fields.specs.Prime.{prime_meaning}
-use Rattle.fields.specs.Binary.{BinaryModulus, binary_meaning}
+use Rattle.fields.specs.Binary.{NoModulus, binary_meaning}
 use Rattle.fields.specs.declared.prime_field.PrimeField.{PrimeField}
 use Rattle.fields.specs.declared.binary_field.BinaryField.{BinaryField}
 use Rattle.fields.specs.declared.cause.FieldCause.TheVariants.{NoPrime, BadModulus}
@@ -78,7 +78,7 @@ HeadRefused body (Field NoSuchField) =
 HeadRefused body (Field (Made NoPrime)) =
     (head : CardHead) × Begins (head_numbers head) body × (head.kind ≡ prime_kind) × (Listed head.origin → ⊥)
 HeadRefused body (Field (Made BadModulus)) =
-    (head : CardHead) × Begins (head_numbers head) body × (head.kind ≡ binary_kind) × ((k : ℕ) → BinaryModulus head.origin k → ⊥)
+    (head : CardHead) × Begins (head_numbers head) body × (head.kind ≡ binary_kind) × NoModulus head.origin
 HeadRefused body BadNote = ⊥
 HeadRefused body (Card cause) = ⊥
 HeadRefused body (Tag cause) = ⊥

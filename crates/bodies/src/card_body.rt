@@ -7,7 +7,7 @@ use crate::card_head::{ReadHead, read_head};
 use crate::number_list::ListAt;
 use codes::{AnyCard, Card, CardCause, CodeRef};
 use faults::BodyFault;
-use fields::{BinaryField, FieldKind, LetteredField, PrimeField};
+use fields::{BinaryField, LetteredField, NoSuchField, PrimeField};
 
 pub fn read_card(body: &[u8]) -> Result<AnyCard, BodyFault>
     ensures read { CardRead body.now result }
@@ -15,15 +15,16 @@ pub fn read_card(body: &[u8]) -> Result<AnyCard, BodyFault>
 {
     let read = read_head(body)?;
     let origin = read.head.origin;
-    match FieldKind::try_from(read.head.kind)? {
-        FieldKind::Prime => {
+    match read.head.kind {
+        PrimeField::KIND => {
             let field = PrimeField::new(origin)?;
             Ok(AnyCard::Prime(card_over(field, read, body)?))
         }
-        FieldKind::Binary => {
+        BinaryField::KIND => {
             let field = BinaryField::new(origin)?;
             Ok(AnyCard::Binary(card_over(field, read, body)?))
         }
+        _ => Err(NoSuchField.into()),
     }
 }
 

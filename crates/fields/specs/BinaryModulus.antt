@@ -8,16 +8,24 @@ use Rattle.algebra.proofs.OnElements.{on_elements_inside}
 use Rattle.algebra.proofs.Inverses.{inverse_found}
 use Rattle.algebra.specs.Laws.{Laws}
 use Rattle.algebra.specs.Meaning.{Arithmetic, inverse_in, with_inverses}
-use Rattle.algebra.specs.Limits.{largest_size}
+use Rattle.algebra.specs.Limits.{size_bits, largest_size}
 use Rattle.fields.specs.CarrylessProduct.{◌⊗◌}
 use Rattle.fields.specs.LongDivision.{Degree, remainder}
 use Rattle.fields.specs.Irreducible.{Irreducible}
+use Rattle.fields.specs.Binary.{BinaryModulus, NoModulus}
 use Rattle.fields.specs.BinaryArithmetic.{modulo_polynomial, largest_modulus}
 use Rattle.fields.specs.PolynomialRing.{product_assoc, product_comm, product_one, product_zero, product_xor}
 use Rattle.fields.specs.PolynomialDegrees.{has_degree, degree_ge, degree_lt, degree_below}
 use Rattle.fields.specs.PolynomialDivision.{remainder_divides}
 use Rattle.fields.specs.PolynomialRemainders.{remainder_below, remainder_small, remainder_modulus, remainder_add, remainder_product}
 use Rattle.fields.specs.PolynomialFactors.{no_factor}
+
+-- what is no modulus is none of any degree
+pub no_modulus : (f k : ℕ) → NoModulus f → BinaryModulus f k → ⊥
+no_modulus f k none m =
+    let below = m.bounded in
+    let two = m.irreducible.no_constant in
+    ⊎_elim (λ large. omega arith) (⊎_elim (λ small. omega arith) (λ (a, b, la, lb, e). m.irreducible.no_product a b la lb e)) none
 
 -- an irreducible polynomial has degree 1 or more
 pub degree_positive : (f k : ℕ) → Degree f k → 2 ≤ f → 2 ≤ 2 ^ k
@@ -79,10 +87,6 @@ module _ (f k : ℕ) (d : Degree f k) (i : Irreducible f) where
   binary_inverse a b ha hb e =
       (inverse_found A (modulus_total binary_modulus) (modulus_ring binary_modulus) a b ha hb
       (on_elements_inside (2 ^ k) (λ x y. remainder f k (x ⊗ y)) a b ha hb ∙ e)).0
-
--- the largest size is this power of 2
-abbrev size_bits : ℕ
-size_bits = 8
 
 -- a modulus up to the largest makes no field larger than the largest size
 pub modulus_size : (f k : ℕ) → Degree f k → f ≤ largest_modulus → 2 ^ k ≤ largest_size

@@ -5,7 +5,7 @@ use Rattle.std.specs.Int.Bits.{xor_zero_r}
 use Rattle.std.proofs.lemmas.Bool.{cases_lt}
 use Rattle.fields.specs.CarrylessProduct.{◌⊗◌}
 use Rattle.fields.specs.LongDivision.{Degree, remainder}
-use Rattle.fields.specs.Irreducible.{Irreducible}
+use Rattle.fields.specs.Irreducible.{Irreducible, Factored}
 use Rattle.fields.specs.PolynomialRing.{zero_product, one_product, product_comm}
 use Rattle.fields.specs.PolynomialDegrees.{has_degree, degree_ge, degree_lt, degree_below, degree_above, degree_product}
 use Rattle.fields.specs.PolynomialDivision.{remainder_divides, remainder_unique}
@@ -43,11 +43,17 @@ trial_division f m l p none = record { no_constant = l; no_product = product }
         (λ (h : suc (m / 2) ≤ i). small b a j lb db (omega arith) (product_comm b a ∙ e))
         (cases_lt i (suc (m / 2)))
 
--- a divisor that leaves no remainder is a factor
-pub trial_found : (f m d k : ℕ) → Degree f m → 2 ≤ d → d < 2 ^ suc (m / 2) → Degree d k → remainder d k f ≡ 0 → Irreducible f → ⊥
-trial_found f m d k df l h dd z i =
+-- a divisor from 2 on that leaves no remainder is a factor, and so is the quotient
+pub trial_factors : (f m d k : ℕ) → 2 ≤ f → Degree f m → 2 ≤ d → d < 2 ^ suc (m / 2) → Degree d k → remainder d k f ≡ 0 → Factored f
+trial_factors f m d k two df l h dd z =
     let (q, e) = factor_from d k f dd z in
     let hi = degree_below d k (suc (m / 2)) dd h in
     let lo = degree_above d k 1 dd l in
     let p : 2 ^ suc k ≤ 2 ^ m = pow_mono (omega arith) in
-    no_factor f q d i l (omega (arith, degree_lt d k dd, degree_ge f m df)) e
+    let less : d < f = omega (arith, degree_lt d k dd, degree_ge f m df) in
+    (q, d, two_or_more q d f two less e, l, sym e)
+  where
+    two_or_more : (q d f : ℕ) → 2 ≤ f → d < f → f ≡ q ⊗ d → 2 ≤ q
+    two_or_more zero d f two less e = let z = e ∙ zero_product d in absurd (omega arith)
+    two_or_more (suc zero) d f two less e = let z = e ∙ one_product d in absurd (omega arith)
+    two_or_more (suc (suc q)) d f two less e = omega arith

@@ -2,13 +2,16 @@
 ghost use Rattle.std.specs.Prelude.{◌≡◌};
 ghost use Rattle.fields.specs.FieldKinds.{field_kind_number, KindNamed};
 
+use crate::binary_field::BinaryField;
+use crate::lettered_field::LetteredField;
+use crate::prime_field::PrimeField;
 use thiserror::Error;
 
-// Each kind has the number that names it in a tray file.
+// Each kind states its number itself, as `KIND`.
 #[derive(Clone, Copy, PartialEq, Eq, Debug)]
 pub enum FieldKind {
-    Prime = 1,
-    Binary = 2,
+    Prime,
+    Binary,
 }
 
 // No kind has the number.
@@ -20,7 +23,10 @@ impl FieldKind {
     pub fn number(self) -> u32
         ensures { result ≡ field_kind_number self }
     {
-        self as u32
+        match self {
+            FieldKind::Prime => PrimeField::KIND,
+            FieldKind::Binary => BinaryField::KIND,
+        }
     }
 }
 
@@ -31,8 +37,8 @@ impl TryFrom<u32> for FieldKind {
 
     fn try_from(number: u32) -> Result<FieldKind, NoSuchField> {
         match number {
-            1 => Ok(FieldKind::Prime),
-            2 => Ok(FieldKind::Binary),
+            PrimeField::KIND => Ok(FieldKind::Prime),
+            BinaryField::KIND => Ok(FieldKind::Binary),
             _ => Err(NoSuchField),
         }
     }

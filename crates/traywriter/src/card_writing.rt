@@ -1,6 +1,5 @@
 // Writes a card.
 ghost use Rattle.codes.specs.Code.{code_of};
-ghost use Rattle.fields.specs.FieldKinds.{field_kind_number};
 ghost use Rattle.bodies.specs.CardBodies.{card_body};
 ghost use Rattle.trayfile.specs.Kinds.{kind_number};
 ghost use Rattle.trayfile.specs.declared.kind.Kind.TheVariants as kinds;
@@ -11,7 +10,7 @@ ghost use Rattle.traywriter.specs.Writers.{Writable, CardWritten};
 use crate::record_writing::{BodyNumbers, write_numbers};
 use crate::write_refusal::WriteRefusal;
 use codes::{AnyCard, CodeRef};
-use fields::FieldKind;
+use fields::{BinaryField, LetteredField, PrimeField};
 use trayfile::Kind;
 
 pub fn write_card(card: &AnyCard, buffer: &mut [u8]) -> Result<usize, WriteRefusal>
@@ -22,29 +21,29 @@ pub fn write_card(card: &AnyCard, buffer: &mut [u8]) -> Result<usize, WriteRefus
     match card {
         AnyCard::Prime(card) => {
             let prime = card.field().prime();
-            write_values(FieldKind::Prime, prime, card.code(), buffer)
+            write_values(PrimeField::KIND, prime, card.code(), buffer)
         }
         AnyCard::Binary(card) => {
             let modulus = card.field().modulus();
-            write_values(FieldKind::Binary, modulus, card.code(), buffer)
+            write_values(BinaryField::KIND, modulus, card.code(), buffer)
         }
     }
 }
 
 // A card's values, over a field of this kind, made from `origin`.
 fn write_values(
-    kind: FieldKind,
+    kind: u32,
     origin: u32,
     code: CodeRef<'_>,
     buffer: &mut [u8],
 ) -> Result<usize, WriteRefusal>
-    requires { Writable (field_kind_number kind) origin (code_of code) }
-    ensures { RecordWritten (kind_number kinds.Card) (card_body (field_kind_number kind) origin (code_of code.entry)) buffer.old buffer.new result }
+    requires { Writable kind origin (code_of code) }
+    ensures { RecordWritten (kind_number kinds.Card) (card_body kind origin (code_of code.entry)) buffer.old buffer.new result }
 {
     let cells = code.locators.len() as u32;
     let rows = code.rows as u32;
     let body = BodyNumbers {
-        head: &[kind.number(), origin, code.letters, cells, rows],
+        head: &[kind, origin, code.letters, cells, rows],
         first: code.locators,
         second: code.multipliers,
     };

@@ -8,7 +8,6 @@ use crate::binary_field::BinaryField;
 use crate::binary_field::euclid::inverse;
 use crate::binary_field::polynomial::product;
 use crate::field::Field;
-use crate::kind::FieldKind;
 use crate::lettered_field::LetteredField;
 
 impl Field for BinaryField {
@@ -51,7 +50,7 @@ impl Field for BinaryField {
 }
 
 impl LetteredField for BinaryField {
-    const KIND: u32 = FieldKind::Binary as u32;
+    const KIND: u32 = 2;
 
     // Whatever is closed and has a third letter has X, so every power of X and every sum of those.
     fn admits(&self, letters: u32) -> bool

@@ -1,12 +1,13 @@
 // Which polynomials have no factors.
-ghost use Rattle.std.specs.Prelude.{Decides};
-ghost use Rattle.fields.specs.Irreducible.{Irreducible};
+ghost use Rattle.std.specs.Prelude.{◌≡◌, ◌<◌, ◌⊎◌, Decides, false};
+ghost use Rattle.fields.specs.Irreducible.{Irreducible, Factored};
 
 use crate::binary_field::polynomial::{degree_of, remainder_of};
 
 // Is `f` irreducible? Of two factors one has at most half the degree of `f`, so it tries all divisors of such degrees.
 pub fn is_irreducible(f: u32) -> bool
-    ensures { Decides result (Irreducible f) }
+    ensures decides { Decides result (Irreducible f) }
+    ensures factors { result ≡ false → (f < 2) ⊎ Factored f }
 {
     if f < 2 {
         return false;

@@ -5,7 +5,6 @@ ghost use Rattle.fields.specs.Prime.{prime_meaning, prime_accepted};
 ghost use Rattle.fields.specs.PrimeModulus.{listed_laws};
 
 use crate::field::Field;
-use crate::kind::FieldKind;
 use crate::lettered_field::LetteredField;
 use crate::prime_field::PrimeField;
 use crate::prime_field::euclid::inverse;
@@ -46,7 +45,7 @@ impl Field for PrimeField {
 }
 
 impl LetteredField for PrimeField {
-    const KIND: u32 = FieldKind::Prime as u32;
+    const KIND: u32 = 1;
 
     // Fewer than all would not be closed: 1 + (letters − 1) is no letter.
     fn admits(&self, letters: u32) -> bool
