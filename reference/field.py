@@ -74,11 +74,17 @@ class Binary(Field):
     sub = add
 
     def mul(self, a, b):
-        if not self.element(a, b):
-            return 0
-        if (a, b) not in self.products:
-            self.products[a, b] = number(rest(product(terms(a), terms(b)), self.modulus))
-        return self.products[a, b]
+        return self.products_with(a)[b] if self.element(a, b) else 0
+
+    def products_with(self, a):
+        """The products of a with 0, 1, 2 ..: with a power of X term by term, and with any other element the sum of two before it."""
+        if a not in self.products:
+            row = [0]
+            for i in range(max(self.modulus)):
+                with_power = number(rest(product(terms(a), {i}), self.modulus))
+                row += [with_power ^ x for x in row]
+            self.products[a] = row
+        return self.products[a]
 
 
 def irreducible(modulus):

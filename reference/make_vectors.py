@@ -2,23 +2,20 @@
 """Writes the cases of crates/vectors and their expected answers.
 
     python3 reference/make_vectors.py
-    python3 reference/make_vectors.py FOLDER
 
-The second form writes more cases, into the folder named, which must be there: sequences of every length, and readings past the bound.
-The answers are worked out here, apart from the library. Each run writes the same files.
+The answers are worked out here, apart from the library, in some minutes. Each run writes the same files.
 """
 
 import random
-import sys
 from pathlib import Path
 
 from code import MARKS, codewords, encode, line, read, read_by_choice, sums
 from field import LARGEST_MODULUS, PRIMES, Binary, Prime, irreducible
 from linear import realise
 
-MORE = len(sys.argv) > 1
-FOLDER = Path(sys.argv[1]) if MORE else Path(__file__).resolve().parent.parent / "crates" / "vectors"
+FOLDER = Path(__file__).resolve().parent.parent / "crates" / "vectors"
 MODULI = [f for f in range(LARGEST_MODULUS + 1) if irreducible(f)]
+ALL_FIELDS = [Prime(p) for p in PRIMES] + [Binary(f) for f in MODULI]
 SOME_FIELDS = [Prime(p) for p in PRIMES] + [Binary(f) for f in (2, 3, 7, 11, 13, 19, 37, 67, 131, 283, 285)]
 cases, answers = [], []
 
@@ -41,6 +38,9 @@ def fields():
         case(f"field 1 {n}", f"taken, {n} elements" if n in PRIMES else "refused 11 no prime")
     for n in list(range(LARGEST_MODULUS + 1)) + [512, 515, 517, 1033, 4294967295]:
         case(f"field 2 {n}", f"taken, {Binary(n).size} elements" if n in MODULI else "refused 12 bad modulus")
+    for kind in (0, 3, 4294967295):
+        for origin in (7, 11, 4294967295):
+            case(f"field {kind} {origin}", "refused 10 no such field")
 
 
 def arithmetic_case(field, a, b):
@@ -52,6 +52,17 @@ def inverses_case(field):
     case(f"inverses {named(field)}", "inverses " + " ".join("-" if b is None else str(b) for b in inverses))
 
 
+def products_case(field):
+    """For each element a one number, made of its products with every element."""
+    folded = []
+    for a in range(field.size):
+        h = 1
+        for b in range(field.size):
+            h = (h * 257 + field.mul(a, b)) % 65521
+        folded.append(h)
+    case(f"products {named(field)}", f"products {words(folded)}")
+
+
 def arithmetic(rng):
     for field in SOME_FIELDS:
         q = field.size
@@ -59,17 +70,17 @@ def arithmetic(rng):
         pairs += [(rng.randrange(q), rng.randrange(q)) for _ in range(12)]
         for a, b in pairs:
             arithmetic_case(field, a, b)
-        inverses_case(field)
         if field.size <= 64:
             case(f"admits {named(field)}", "admits " + words(n for n in range(q + 2) if field.admits(n)))
-    for modulus in MODULI:
-        field = Binary(modulus)
+    for field in ALL_FIELDS:
         arithmetic_case(field, rng.randrange(field.size), rng.randrange(field.size))
-        if field.size <= 64:
-            inverses_case(field)
+        inverses_case(field)
+        products_case(field)
     # two products and an inverse that the Advanced Encryption Standard prints
-    for a, b in ((0x57, 0x83), (0x57, 0x13), (0x53, 0xCA)):
+    for a, b, product in ((0x57, 0x83, 0xC1), (0x57, 0x13, 0xFE), (0x53, 0xCA, 0x01)):
+        assert Binary(283).mul(a, b) == product
         arithmetic_case(Binary(283), a, b)
+    assert Binary(283).invert(0x53) == 0xCA
 
 
 def sums_case(field, rows, locators, multipliers, cells):
@@ -95,6 +106,7 @@ def all_sums(rng):
     # a worked example, and the check digit of a book number: ten digits weighted 10 down to 1 modulo 11
     sums_case(Prime(7), 4, range(6), [1] * 6, [1, 5, 3, 4, 0, 6])
     sums_case(Prime(11), 1, range(10), range(10, 0, -1), [0, 3, 0, 6, 4, 0, 6, 1, 5, 2])
+    assert sums(Binary(285), 10, qr_locators(), [1] * 26, list(QR_WORD)) == [0] * 10
     sums_case(Binary(285), 10, qr_locators(), [1] * 26, list(QR_WORD))
     sums_case(Prime(7), 3, [], [], [])
     sums_case(Prime(7), 3, [1, 2], [1], [1, 2])
@@ -145,8 +157,8 @@ def pairs(rng):
             realise_case(field, sequence)
             sequence[-rng.randrange(1, 8)] = rng.randrange(q)
             realise_case(field, sequence)
-    # every length, over primes and binary fields in turn
-    for length in range(65) if MORE else ():
+    # every length, each over two primes and two binary fields
+    for length in range(65):
         for field in rng.sample(SOME_FIELDS[: len(PRIMES)], 2) + rng.sample(SOME_FIELDS[len(PRIMES) :], 2):
             realise_case(field, [rng.randrange(field.size) for _ in range(length)])
 
@@ -199,6 +211,8 @@ def cards(rng):
         card_case(field, rng.choice((q, q, 2)), rng.randrange(1, n + 1), locators, multipliers)
 
 
+# book numbers that are printed elsewhere, and two more; the last letter of each is the check letter, and X is 10
+BOOK_NUMBERS = ("0306406152", "0198526636", "080442957X", "0000000000", "9999999999")
 REFUSALS = {22: "no letter", 25: "wrong length", 26: "part alphabet"}
 
 
@@ -214,10 +228,13 @@ def encodings(rng):
     encode_case(seven, 7, 4, range(6), [1] * 6, [0, 7])
     encode_case(seven, 7, 4, range(6), [1] * 6, [0, 2, 6])
     encode_case(eight, 2, 2, range(1, 8), range(1, 8), [1])
+    assert encode(engraved, 256, 10, qr_locators(), [1] * 26, list(QR_WORD[:16])) == list(QR_WORD)
     encode_case(engraved, 256, 10, qr_locators(), [1] * 26, QR_WORD[:16])
-    # the check letters of book numbers: one row, weights 10 down to 1 modulo 11, the letter 10 written X
-    for digits in ("030640615", "019852663", "080442957", "000000000", "999999999"):
-        encode_case(Prime(11), 11, 1, range(10), range(10, 0, -1), [int(d) for d in digits])
+    # one row, weights 10 down to 1 modulo 11
+    for book in BOOK_NUMBERS:
+        letters = [10 if c == "X" else int(c) for c in book]
+        assert encode(Prime(11), 11, 1, list(range(10)), list(range(10, 0, -1)), letters[:9]) == letters
+        encode_case(Prime(11), 11, 1, range(10), range(10, 0, -1), letters[:9])
     encode_case(Prime(37), 37, 8, range(20), [1] * 20, [MARKS.index(c) for c in "HOARD2041TRA"])
     encode_case(engraved, 256, 16, range(64), [1] * 64, [rng.randrange(256) for _ in range(48)])
     encode_case(engraved, 256, 64, range(256), [1] * 256, [rng.randrange(256) for _ in range(192)])
@@ -347,8 +364,7 @@ def main():
     encodings(rng)
     small_readings(rng)
     large_readings(rng)
-    if MORE:
-        readings_past_the_bound(rng)
+    readings_past_the_bound(rng)
     lines(rng)
     (FOLDER / "stdin").write_text("\n".join(cases) + "\n", encoding="utf-8")
     proved = ["proved: [5, 4, 0, 5] [0]"]

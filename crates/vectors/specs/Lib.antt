@@ -1,2 +1,3 @@
 pub mod WorkedSums
 pub mod Degrees
+pub mod Fold

@@ -1,9 +1,11 @@
 // The cases and their answers.
 use crate::code_case::CodeCase;
+use crate::fold::folded_products;
 use crate::numbers::{read_cells, read_numbers, up_to_degree};
 use algebra::COEFFICIENTS;
 use anyhow::bail;
 use codes::{Card, Cell, CellRow, CodeOver, Word};
+use faults::FieldFault;
 use fields::{BinaryField, Field, FieldKind, LetteredField, PrimeField};
 use filling::encode;
 use lines::{LineRefusal, read_line};
@@ -44,10 +46,15 @@ pub fn answer(heap: Global, line: &str) -> anyhow::Result<String> {
             Ok(field) => field_case(case, field),
             Err(cause) => refused(heap, cause.number(), cause),
         },
-        _ => match BinaryField::new(*origin) {
+        Ok(FieldKind::Binary) => match BinaryField::new(*origin) {
             Ok(field) => field_case(case, field),
             Err(cause) => refused(heap, cause.number(), cause),
         },
+        Err(_) => refused(
+            heap,
+            FieldFault::NoSuchField.number(),
+            FieldFault::NoSuchField,
+        ),
     }
 }
 
@@ -68,6 +75,7 @@ fn field_case<F: LetteredField + Drop>(case: Case<'_>, field: F) -> anyhow::Resu
         "field" => taken(case, &field),
         "arithmetic" => arithmetic(case, &field),
         "inverses" => inverses(case, &field),
+        "products" => products(case, &field),
         "admits" => admits(case, &field),
         "sums" => sums_case(case, field),
         "realise" => realise_case(case, &field),
@@ -102,6 +110,16 @@ fn inverses<F: LetteredField>(case: Case<'_>, field: &F) -> anyhow::Result<Strin
             Some(b) => write!(out, " {b}")?,
             None => write!(out, " -")?,
         }
+    }
+    Ok(out)
+}
+
+// For each element a one number, made of its products with every element.
+fn products<F: LetteredField>(case: Case<'_>, field: &F) -> anyhow::Result<String> {
+    let mut out = format!(in case.heap; "products")?;
+    for a in 0..field.size() {
+        let folded = folded_products(field, a);
+        write!(out, " {folded}")?;
     }
     Ok(out)
 }

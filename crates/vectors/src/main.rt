@@ -3,6 +3,7 @@
 
 mod cases;
 mod code_case;
+mod fold;
 mod numbers;
 mod worked;
 

@@ -1,15 +1,12 @@
-use Rattle.std.proofs.Common.{◌≡◌, ap, ◌∙◌}
-use Rattle.algebra.specs.Meaning.{Arithmetic, Meaning}
-use Rattle.fields.specs.Modulo.{modulo}
-use Rattle.codes.specs.Sums.{syndromes}
 use Rattle.vectors.specs.WorkedSums.{book_code, book_cells}
-use Rattle.vectors.proofs.WorkedSums.{book, eleven_listed}
+use Rattle.vectors.proofs.WorkedSums.{book, eleven_listed, made, summed}
 use Rattle.vectors.proofs.worked.sum_of_book_number.Goals as goal
 
-pub unreachable-requires : goal.unreachable-requires
-unreachable-requires c = c.in_default.ensures.0 eleven_listed
+pub unwrap-field-requires : goal.unwrap-field-requires
+unwrap-field-requires c = made 11 c.new.result eleven_listed c.new.ensures
 
 pub returns : goal.returns
-returns c =
-    let meaning : modulo c.in-Ok.field.prime ≡ modulo 11 = ap (λ (m : Meaning). m.arithmetic) c.in-Ok.ensures.2 in
-    c.in-Ok-sums.ensures.1 ∙ ap (λ (A : Arithmetic). syndromes A book_code book_cells) meaning ∙ book
+returns c = record {
+  sums = summed 11 c.new.result c.unwrap-field.result c.new.ensures c.unwrap-field.ensures book_code book_cells _ _ c.sums.result c.unwrap.result c.sums.ensures c.unwrap.ensures;
+  value = book;
+}
