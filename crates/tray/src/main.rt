@@ -3,7 +3,7 @@
 
 use std::io::Read;
 use trayfile::LONGEST_FILE;
-use traylines::print_lines;
+use traylines::write_lines;
 
 // One byte more than a file may have tells that it is too long.
 fn run(rt: &HostRuntime) -> anyhow::Result<()> {
@@ -11,7 +11,8 @@ fn run(rt: &HostRuntime) -> anyhow::Result<()> {
     rt.stdin()
         .take(LONGEST_FILE as u64 + 1)
         .read_to_end(&mut file)?;
-    print_lines(rt, file.as_slice())
+    write_lines(&mut rt.stdout(), file.as_slice())?;
+    Ok(())
 }
 
 fn main(rt: HostRuntime) -> anyhow::Result<()> {

@@ -1,5 +1,6 @@
+pub mod FileLines
+pub mod FileText
+pub mod LastCards
 pub mod Lines
 pub mod WordReading
 pub mod WordUnder
-pub mod LastCards
-pub mod FileLines

@@ -30,6 +30,9 @@ abbrev pub fault_text : FaultLine → List ℕ
 fault_text l = codes "FAULT " ++ (decimal l.fault.place ++ (layer_word l.fault.layer ++ decimal (fault_number l.fault)))
 
 -- READ, the record's place, how many cells are wrong and how many blank, and the word
+abbrev pub read_bytes : ℕ → ℕ → ℕ → List ℕ → List ℕ
+read_bytes place wrong blank letters =
+    codes "READ " ++ (decimal place ++ (codes " " ++ (decimal wrong ++ (codes " " ++ (decimal blank ++ word_text letters)))))
+
 abbrev pub read_text : ReadLine → List ℕ
-read_text l =
-    codes "READ " ++ (decimal l.place ++ (codes " " ++ (decimal l.wrong ++ (codes " " ++ (decimal l.blank ++ word_text l.word.letters.now)))))
+read_text l = read_bytes l.place l.wrong l.blank l.word.letters.now

@@ -11,6 +11,6 @@ mod word_reading;
 pub use card_word::{UnderRefusal, word_under};
 pub use file_lines::{FileLines, Step};
 pub use line::{EndLine, FaultLine, LostLine, ReadLine};
-pub use report::print_lines;
+pub use report::write_lines;
 pub use word_read::WordRead;
 pub use word_reading::{WordRefusal, read_word};

@@ -1,10 +1,13 @@
-// Prints the lines of a whole file.
-ghost use Rattle.std.specs.Prelude.{◌≡◌};
+// Writes the lines of a whole file.
+ghost use Rattle.std.specs.Prelude.{◌≡◌, List, ℕ, OnOk};
+ghost use Rattle.std.specs.Io.KnownBytes.{Appends};
+ghost use Rattle.traylines.specs.FileText.{FileText, step_text};
 
 use crate::file_lines::{FileLines, Step};
 use crate::line::ReadLine;
 use crate::word_read::WordRead;
 use codes::Word;
+use std::io::{self, Write};
 
 // The line of a word that was read at a place.
 fn read_line(place: usize, word: &WordRead) -> ReadLine<'_>
@@ -23,28 +26,31 @@ fn read_line(place: usize, word: &WordRead) -> ReadLine<'_>
     }
 }
 
-// Each step of the file is carried out to the output, and nothing else.
-pub fn print_lines(rt: &HostRuntime, file: &[u8]) -> anyhow::Result<()> {
+// Writes the line of each step of the file, up to its end or the fault that ends it.
+pub fn write_lines<W: Write>(out: &mut W, file: &[u8]) -> io::Result<()>
+    ensures { OnOk result ((text : List ℕ) × FileText file.now text × Appends (W.contents out.old) (W.contents out.new) text) }
+{
     let mut lines = FileLines::new(file);
     loop {
         let step = lines.step();
-        print_step(rt, &step)?;
+        write_step(out, &step)?;
         if !step.goes_on() {
             return Ok(());
         }
     }
 }
 
-fn print_step(rt: &HostRuntime, step: &Step) -> anyhow::Result<()> {
+fn write_step<W: Write>(out: &mut W, step: &Step) -> io::Result<()>
+    ensures { OnOk result (Appends (W.contents out.old) (W.contents out.new) (step_text step.now)) }
+{
     match step {
-        Step::Silent => {}
+        Step::Silent => Ok(()),
         Step::Read { place, word } => {
             let line = read_line(*place, word);
-            println!(rt; "{line}")?;
+            writeln!(out, "{line}")
         }
-        Step::Lost(line) => println!(rt; "{line}")?,
-        Step::End(line) => println!(rt; "{line}")?,
-        Step::Fault(line) => println!(rt; "{line}")?,
+        Step::Lost(line) => writeln!(out, "{line}"),
+        Step::End(line) => writeln!(out, "{line}"),
+        Step::Fault(line) => writeln!(out, "{line}"),
     }
-    Ok(())
 }

@@ -5,13 +5,13 @@
 mod hexadecimal;
 
 use hexadecimal::decode;
-use traylines::print_lines;
+use traylines::write_lines;
 
 fn run(rt: &HostRuntime) -> anyhow::Result<()> {
     for line in rt.lines(rt.alloc()) {
         let line = line?;
         let file = decode(rt.alloc(), line.as_str())?;
-        print_lines(rt, file.as_slice())?;
+        write_lines(&mut rt.stdout(), file.as_slice())?;
     }
     Ok(())
 }

@@ -160,17 +160,17 @@ card_is_written : (body : List ℕ) (card : AnyCard) → CardIn body card → bo
 card_is_written body (Prime card) is = is.written
 card_is_written body (Binary card) is = is.written
 
-done_is_written : (turn : Turn) (kind : Kind) (body : List ℕ) (next : Turn) (task : Task) → task_for turn kind ≡ Some task → Done task body next → IsWritten kind body
+done_is_written : (turn : Turn) (kind : Kind) (body : List ℕ) (next : Turn) (task : Task) → task_for turn kind ≡ Some task → Done task body next → IsWritten turn kind body
 done_is_written turn kinds.Card body next task in_turn done =
     let card = subst (λ (t : Task). Done t body next) (same_task (task_for turn kinds.Card) tasks.Card task (card_in_turn turn) in_turn) done in
-    (card.card, card_is_written body card.card card.read)
+    (card.card, card.read, card_is_written body card.card card.read)
 done_is_written Start kinds.Cells body next task in_turn done = absurd (no_task task in_turn)
 done_is_written (InTurn shape) kinds.Cells body next task in_turn done =
     let read = subst (λ (t : Task). Done t body next) (same_task (Some (tasks.Cells shape)) (tasks.Cells shape) task refl in_turn) done in
-    (shape, read.0.0, read.0.1.count, read.0.1.lettered, read.0.1.written)
+    (shape, refl, read.0.0, read.0.1.count, read.0.1.lettered, read.0.1.written)
 done_is_written (AfterNote shape) kinds.Cells body next task in_turn done =
     let read = subst (λ (t : Task). Done t body next) (same_task (Some (tasks.Cells shape)) (tasks.Cells shape) task refl in_turn) done in
-    (shape, read.0.0, read.0.1.count, read.0.1.lettered, read.0.1.written)
+    (shape, refl, read.0.0, read.0.1.count, read.0.1.lettered, read.0.1.written)
 done_is_written Start kinds.Note body next task in_turn done = absurd (no_task task in_turn)
 done_is_written (InTurn shape) kinds.Note body next task in_turn done =
     (subst (λ (t : Task). Done t body next) (same_task (Some (tasks.Note shape)) (tasks.Note shape) task refl in_turn) done).0

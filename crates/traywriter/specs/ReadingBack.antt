@@ -1,9 +1,9 @@
 -- What is written reads back as itself. Assumes nothing.
-use Rattle.std.specs.Prelude.{◌≡◌, ℕ, ◌⊎◌, List, ◌++◌, length, None, Ok, Option, Result}
+use Rattle.std.specs.Prelude.{◌≡◌, ℕ, ◌⊎◌, List, ◌++◌, length, Some, None, Ok, Option, Result}
 use Rattle.codes.specs.Code.{Code}
 use Rattle.codes.specs.Verdicts.{Lettered}
 use Rattle.codes.specs.declared.cell.Cell.{Cell}
-use Rattle.bodies.specs.CardBodies.{CardRead}
+use Rattle.bodies.specs.CardBodies.{CardIn, CardRead}
 use Rattle.bodies.specs.CardShapes.{ShapeOf}
 use Rattle.bodies.specs.CellBodies.{cells_body, CellsReadInto}
 use Rattle.bodies.specs.Notes.{PlainNote}
@@ -19,6 +19,8 @@ use Rattle.trayfile.specs.declared.kind.Kind.TheVariants.{Card, Cells, Note}
 use Rattle.trayfile.specs.declared.record.Record.{Record}
 use Rattle.trayfile.specs.declared.reader.TrayReader.{TrayReader}
 use Rattle.trayfile.specs.declared.turn.Turn.{Turn}
+use Rattle.trayfile.specs.declared.turn.Task.TheVariants as tasks
+use Rattle.trayfile.specs.Turns.{task_for}
 use Rattle.trayfile.specs.declared.turn.Turn.TheVariants.{InTurn, AfterNote}
 use Rattle.trayfile.specs.declared.kind.Kind.{Kind}
 use Rattle.trayfile.specs.Records.{Follows}
@@ -54,11 +56,11 @@ abbrev pub NoteComesBack : List ℕ → Type 0
 NoteComesBack note = EntryComesBack AfterCardOrCells (entry Note note)
 
 -- The record is the one that its writer makes: of a card, of cells with letters in the alphabet, or of a plain note.
-abbrev pub IsWritten : Kind → List ℕ → Type 0
-IsWritten Card body = (card : AnyCard) × (body ≡ tray_body card)
-IsWritten Cells body = (shape : CardShape) × (cells : List Cell) × (length cells ≡ shape.cells) × Lettered shape.letters cells × (body ≡ cells_body cells)
-IsWritten Note body = PlainNote body
+abbrev pub IsWritten : Turn → Kind → List ℕ → Type 0
+IsWritten turn Card body = (card : AnyCard) × CardIn body card × (body ≡ tray_body card)
+IsWritten turn Cells body = (shape : CardShape) × (task_for turn Cells ≡ Some (tasks.Cells shape)) × (cells : List Cell) × (length cells ≡ shape.cells) × Lettered shape.letters cells × (body ≡ cells_body cells)
+IsWritten turn Note body = PlainNote body
 
 -- Every record that is accepted, in whatever turn, is one that a writer makes, byte for byte.
 abbrev pub AcceptedIsWritten : Type 0
-AcceptedIsWritten = (turn : Turn) (e : Entry) (next : Turn) → Follows turn e next → IsWritten e.kind e.body
+AcceptedIsWritten = (turn : Turn) (e : Entry) (next : Turn) → Follows turn e next → IsWritten turn e.kind e.body

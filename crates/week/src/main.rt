@@ -13,7 +13,7 @@ use inkedtag::{
 };
 use marks::Marks;
 use saturday::file_tag;
-use traylines::print_lines;
+use traylines::write_lines;
 
 // The next line of the input, without its end.
 fn next_line(rt: &HostRuntime, input: &mut String) -> anyhow::Result<()> {
@@ -48,7 +48,7 @@ fn run(rt: &HostRuntime) -> anyhow::Result<()> {
             println!(rt;
                 "Saturday, card and cells go into a tray file of {length} bytes, and it reads:"
             )?;
-            print_lines(rt, file.as_slice())?;
+            write_lines(&mut rt.stdout(), file.as_slice())?;
         }
         Err(refusal) => {
             let number = refusal.number();

@@ -1,0 +1,44 @@
+use Rattle.std.proofs.Common.{[], ◌∷◌, ◌++◌, refl, sym, subst}
+use Rattle.std.proofs.KnownBytes.{Appends-nil, Appends-trans}
+use Rattle.std.specs.Io.KnownBytes.{Appends}
+use Rattle.traylines.specs.FileText.{step_text, steps_text}
+use Rattle.traylines.proofs.Advances.{fewer_stepped}
+use Rattle.traylines.proofs.FileTexts.{walk_more, text_more}
+use Rattle.traylines.proofs.report.write_lines.Goals as goal
+
+pub loop-step-init : goal.loop-step-init
+loop-step-init g c = (c.new-lines.result, [], c.new-lines.ensures, refl, Appends-nil (g.W.Write.contents c.args.out.now))
+
+pub loop-step-smaller : goal.loop-step-smaller
+loop-step-smaller g c = fewer_stepped _ _ _ c.step-step.ensures (sym c.if-not-goes_on.ensures)
+
+pub loop-step-preserved : goal.loop-step-preserved
+loop-step-preserved g c =
+    let inv = c.loop-step.invariant in
+    let told = c.step-step.result in (
+      inv.0,
+      inv.1 ++ told ∷ [],
+      inv.2,
+      walk_more inv.0 inv.1 _ told _ inv.3 c.step-step.ensures (sym c.if-not-goes_on.ensures),
+      subst (Appends _ _) (sym (text_more inv.1 told)) (Appends-trans _ _ _ (steps_text inv.1) (step_text told) inv.4 c.in_ok-write_step.ensures),
+    )
+
+pub returns-then-not-goes_on : goal.returns-then-not-goes_on
+returns-then-not-goes_on g c =
+    let inv = c.loop-step.invariant in
+    let told = c.step-step.result in (
+      steps_text inv.1 ++ step_text told,
+      record {
+        first = inv.0;
+        fresh = inv.2;
+        steps = inv.1;
+        before = c.loop-step.lines;
+        walk = inv.3;
+        last = told;
+        after = c.step-step.new.self;
+        step = c.step-step.ensures;
+        ends = sym c.if-not-goes_on.ensures;
+        lines = refl;
+      },
+      Appends-trans _ _ _ (steps_text inv.1) (step_text told) inv.4 c.in_ok-write_step.ensures,
+    )
