@@ -1,3 +1,4 @@
 pub mod NumberBytes
 pub mod ReadBytes
 pub mod WrittenBytes
+mod NumberExamples

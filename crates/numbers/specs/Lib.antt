@@ -1,4 +1,5 @@
 pub mod Numbers
 pub mod NumberCauses
+pub mod NumberExamples
 pub mod NumberReading
 pub mod NumberWriting
