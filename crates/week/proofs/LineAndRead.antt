@@ -1,5 +1,5 @@
 -- A run of a line and a read: what the law over runs says of its two events. Assumes nothing.
-use Rattle.std.proofs.Common.{◌≡◌, ℕ, ◌<◌, List, [], ◌∷◌, map, length, get_or, take, None, Ok, Err, Option, Result, sym, refl, ap, ◌∙◌, subst, subst₂, arith, Bor}
+use Rattle.std.proofs.Common.{◌≡◌, ℕ, ◌<◌, List, [], ◌∷◌, map, length, get_or, take, Ok, Err, Result, sym, refl, ap, ◌∙◌, subst, subst₂, arith, Bor}
 use Rattle.std.specs.Str.{chars}
 use Rattle.std.proofs.lemmas.List.{get_or-map}
 use Rattle.algebra.specs.Meaning.{Arithmetic}
@@ -10,14 +10,16 @@ use Rattle.reading.specs.declared.read_answer.Counts.{Counts}
 use Rattle.reading.specs.declared.read_answer.ReadRefusal.{ReadRefusal}
 use Rattle.reading.specs.declared.read_answer.ReadRefusal.TheVariants.{WrongLength, TooBlank, Lost}
 use Rattle.tags.specs.Calls.{call_of}
-use Rattle.lines.specs.Lines.{line_number}
+use Rattle.lines.specs.Lines.{LineRead}
 use Rattle.tags.specs.Runs.{RunLaw, fresh_buffer}
-use Rattle.tags.specs.Sheet.{blank_sheet, refusal_of_line, marked_cells, refused, unless_refused}
+use Rattle.tags.specs.Sheet.{blank_sheet, after_line}
 use Rattle.tags.specs.declared.call.Call.{Call}
 use Rattle.tags.specs.declared.call.Call.TheVariants as call
 use Rattle.tags.specs.declared.event.Event.{Event}
 use Rattle.tags.specs.declared.event.Event.TheVariants.{Line, Read}
 use Rattle.lines.specs.declared.line.LineRefusal.{LineRefusal}
+use Rattle.lines.specs.declared.line.LineRefusal.TheVariants.{UnmarkedAlphabet, BadMark}
+use Rattle.lines.specs.declared.line.LineRefusal.TheVariants as line_refusal
 
 two : (xs : List Event) (d : Event) → length xs ≡ 2 → xs ≡ get_or xs 0 d ∷ get_or xs 1 d ∷ []
 two [] d e = absurd (omega (arith, e))
@@ -53,21 +55,23 @@ module _ (A : Arithmetic) (code : Code) (text : Bor (List ℕ)) (events : ℕ) (
   the_law : RunLaw A code (Line text noted ∷ Read 20 answer buffer ∷ [])
   the_law = subst (RunLaw A code) events_are law
 
-  pub noted_by : refused line_number noted ≡ refusal_of_line code (chars text.now)
-  noted_by = (the_law.answers 0 (Line text noted) refl).0
+  line_read : LineRead code.letters (chars text.now) (blank_sheet code) (after_line code (chars text.now) (blank_sheet code)) noted
+  line_read = (the_law.answers 0 (Line text noted) refl).1
 
-  pub read_by : refusal_of_line code (chars text.now) ≡ None → Reading A code (marked_cells code.letters (chars text.now)) (take 20 fresh_buffer) (take 20 buffer) answer
-  read_by accepted =
-      subst (λ (sheet : List Cell). Reading A code sheet (take 20 fresh_buffer) (take 20 buffer) answer)
-      (ap (λ (o : Option ℕ). unless_refused o (marked_cells code.letters (chars text.now)) (blank_sheet code)) accepted)
-      (the_law.answers 1 (Read 20 answer buffer) refl).reading
+  sheet_read : Reading A code (after_line code (chars text.now) (blank_sheet code)) (take 20 fresh_buffer) (take 20 buffer) answer
+  sheet_read = (the_law.answers 1 (Read 20 answer buffer) refl).reading
 
-  -- the same, of a named arithmetic and a named code
-  pub read_under : (B : Arithmetic) (other : Code) (done : Unit {0}) → A ≡ B → code ≡ other → noted ≡ Ok done → (refusal_of_line other (chars text.now) ≡ None) × Reading B other (marked_cells other.letters (chars text.now)) (take 20 fresh_buffer) (take 20 buffer) answer
-  read_under B other done arithmetic-is code_is taken =
-      let accepted = sym noted_by ∙ ap (refused line_number) taken in
-      subst₂ (λ (B : Arithmetic) (other : Code). (refusal_of_line other (chars text.now) ≡ None) × Reading B other (marked_cells other.letters (chars text.now)) (take 20 fresh_buffer) (take 20 buffer) answer)
-      arithmetic-is code_is (accepted, read_by accepted)
+  -- the cells that the line leaves, and what they read as, of a named arithmetic and a named code
+  pub both_under : (B : Arithmetic) (other : Code) → A ≡ B → code ≡ other → (cells : List Cell) × LineRead other.letters (chars text.now) (blank_sheet other) cells noted × Reading B other cells (take 20 fresh_buffer) (take 20 buffer) answer
+  both_under B other arithmetic-is code_is =
+      subst₂ (λ (B : Arithmetic) (other : Code). (cells : List Cell) × LineRead other.letters (chars text.now) (blank_sheet other) cells noted × Reading B other cells (take 20 fresh_buffer) (take 20 buffer) answer)
+      arithmetic-is code_is (after_line code (chars text.now) (blank_sheet code), line_read, sheet_read)
+
+-- a refused line leaves the cells
+pub refused_line : (letters : ℕ) (marks : List ℕ) (before after : List Cell) (refusal : LineRefusal) → LineRead letters marks before after (Err refusal) → LineRead letters marks before before (Err refusal)
+refused_line letters marks before after line_refusal.WrongLength r = (r.0, refl)
+refused_line letters marks before after UnmarkedAlphabet r = (r.0, r.1, refl)
+refused_line letters marks before after (BadMark place) r = (r.0, r.1, r.2, refl)
 
 -- a refused reading leaves any buffer of the same length
 pub refused_in : (A : Arithmetic) (code : Code) (cells : List Cell) (before after other : List ℕ) (refusal : ReadRefusal) → length before ≡ length other → Reading A code cells before after (Err refusal) → Reading A code cells other other (Err refusal)
