@@ -1,3 +1,4 @@
 pub mod WorkedSums
 pub mod Degrees
 pub mod Fold
+pub mod Parts

@@ -2,6 +2,7 @@
 use crate::code_case::CodeCase;
 use crate::fold::folded_products;
 use crate::numbers::{read_cells, read_numbers, up_to_degree};
+use crate::parts::cut;
 use algebra::COEFFICIENTS;
 use anyhow::bail;
 use codes::{Card, Cell, CellRow, CodeOver, Word};
@@ -30,7 +31,7 @@ pub fn answer(heap: Global, line: &str) -> anyhow::Result<String> {
     if word == "line" {
         return line_case(heap, argument);
     }
-    let (head, rest) = argument.split_once(';').unwrap_or((argument, ""));
+    let (head, rest) = cut(argument);
     let numbers = read_numbers(heap, head)?;
     let [kind, origin, numbers @ ..] = numbers.as_slice() else {
         bail!("a field has a kind and an origin")

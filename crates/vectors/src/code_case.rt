@@ -1,7 +1,9 @@
 // The code of a case, and what stands after it.
 ghost use Rattle.std.specs.Prelude.{◌≡◌, IfOk};
+ghost use Rattle.vectors.specs.Parts.{part, NumbersOf};
 
 use crate::numbers::read_numbers;
+use crate::parts::cut;
 use codes::CodeRef;
 use std::alloc::Global;
 
@@ -25,16 +27,21 @@ impl<'a> CodeCase<'a> {
     ) -> anyhow::Result<CodeCase<'a>>
         ensures letters { IfOk result (λ case. case.letters ≡ letters) }
         ensures rows { IfOk result (λ case. case.rows ≡ rows) }
+        ensures locators { IfOk result (λ case. NumbersOf (part 0 text.now) case.locators.items) }
+        ensures multipliers { IfOk result (λ case. NumbersOf (part 1 text.now) case.multipliers.items) }
+        ensures last { IfOk result (λ case. case.last.now ≡ part 2 text.now) }
     {
-        let mut parts = text.split(';');
-        let locators = read_numbers(heap, parts.next().unwrap_or(""))?;
-        let multipliers = read_numbers(heap, parts.next().unwrap_or(""))?;
+        let (locators, rest) = cut(text);
+        let (multipliers, rest) = cut(rest);
+        let (last, _) = cut(rest);
+        let locators = read_numbers(heap, locators)?;
+        let multipliers = read_numbers(heap, multipliers)?;
         Ok(CodeCase {
             letters,
             rows: rows as usize,
             locators,
             multipliers,
-            last: parts.next().unwrap_or(""),
+            last,
         })
     }
 

@@ -5,6 +5,7 @@ mod cases;
 mod code_case;
 mod fold;
 mod numbers;
+mod parts;
 mod worked;
 
 use cases::answer;

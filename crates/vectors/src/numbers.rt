@@ -1,25 +1,34 @@
 // Numbers and cells, read from a case and shown in its answer.
+ghost use Rattle.std.specs.Prelude.{IfOk};
 ghost use Rattle.vectors.specs.Degrees.{UpToDegree};
+ghost use Rattle.vectors.specs.Parts.{NumbersOf, CellsOf};
 
 use codes::{Cell, Word};
 use std::alloc::Global;
 
-pub fn read_numbers(heap: Global, text: &str) -> anyhow::Result<Vec<u32>> {
+pub fn read_numbers(heap: Global, text: &str) -> anyhow::Result<Vec<u32>>
+    ensures { IfOk result (λ numbers. NumbersOf text.now numbers.items) }
+{
     let mut numbers = Vec::new(heap);
-    for word in text.split_whitespace() {
-        numbers.push(word.parse::<u32>()?)?;
+    for word in text.split(' ') {
+        if !word.is_empty() {
+            numbers.push(word.parse::<u32>()?)?;
+        }
     }
     Ok(numbers)
 }
 
 // A blank is written '?'.
-pub fn read_cells(heap: Global, text: &str) -> anyhow::Result<Vec<Cell>> {
+pub fn read_cells(heap: Global, text: &str) -> anyhow::Result<Vec<Cell>>
+    ensures { IfOk result (λ cells. CellsOf text.now cells.items) }
+{
     let mut cells = Vec::new(heap);
-    for word in text.split_whitespace() {
-        cells.push(match word {
-            "?" => Cell::blank(),
-            _ => Cell::noted(word.parse::<u32>()?),
-        })?;
+    for word in text.split(' ') {
+        if word == "?" {
+            cells.push(Cell::blank())?;
+        } else if !word.is_empty() {
+            cells.push(Cell::noted(word.parse::<u32>()?))?;
+        }
     }
     Ok(cells)
 }
