@@ -1,7 +1,7 @@
 -- The coefficients of polynomials in 65 places. Assumes nothing.
-use Rattle.std.proofs.Common.{◌≡◌, ℕ, ◌<◌, ◌≤◌, List, length, get_or, ap, ◌∙◌, ⊎_elim, arith}
+use Rattle.std.proofs.Common.{◌≡◌, ℕ, ◌+◌, ◌<◌, ◌≤◌, List, ◌++◌, length, get_or, take, drop, sym, ap, ◌∙◌, ⊎_elim, take-append-drop, arith}
 use Rattle.std.proofs.lemmas.List.FromFn.{get_or-map-range_with_len, length-map-range_with_len, fill_by_all}
-use Rattle.std.proofs.lemmas.List.{get_or_past}
+use Rattle.std.proofs.lemmas.List.{get_or_past, get_or-drop, length-drop}
 use Rattle.std.proofs.lemmas.Bool.{le-leb, lt-leb, cases_lt, cond-true, cond-false}
 use Rattle.std.proofs.lemmas.Grind.{same_number_lists}
 use Rattle.algebra.specs.Limits.{coefficients}
@@ -31,3 +31,18 @@ module _ (m : ℕ) (f : ℕ → ℕ) where
   pub up_to_is : (xs : List ℕ) → length xs ≡ coefficients → ((k : ℕ) → k < coefficients → get_or xs k 0 ≡ cut m f k) → record { coeffs = xs } ≡ up_to m f
   unfolding up_to
   up_to_is xs long is = ap (λ (ys : List ℕ). record { coeffs = ys }) (fill_by_all (cut m f) xs coefficients 0 long is)
+
+-- two lists of one length with nothing but zeros after place m: what stands after it is the same
+same_tails : (m : ℕ) (xs ys : List ℕ) → length xs ≡ length ys → ((j : ℕ) → m < j → get_or xs j 0 ≡ 0) → ((j : ℕ) → m < j → get_or ys j 0 ≡ 0) →
+    drop (m + 1) xs ≡ drop (m + 1) ys
+same_tails m xs ys long zeros zeros-2 =
+    let long-1 = length-drop (m + 1) xs in
+    let long-2 = length-drop (m + 1) ys in
+    same_number_lists (drop (m + 1) xs) (drop (m + 1) ys) (omega arith)
+    (λ k h. get_or-drop (m + 1) xs k 0 ∙ zeros (m + 1 + k) (omega arith) ∙ sym (get_or-drop (m + 1) ys k 0 ∙ zeros-2 (m + 1 + k) (omega arith)))
+
+-- the places up to m of one list before those after m of another are all of the first
+pub exchanged_front : (m : ℕ) (front xs ys : List ℕ) → front ≡ take (m + 1) ys → length xs ≡ length ys → ((j : ℕ) → m < j → get_or xs j 0 ≡ 0) →
+    ((j : ℕ) → m < j → get_or ys j 0 ≡ 0) → front ++ drop (m + 1) xs ≡ ys
+exchanged_front m front xs ys is long zeros zeros-2 =
+    ap (λ l. l ++ drop (m + 1) xs) is ∙ ap (λ l. take (m + 1) ys ++ l) (same_tails m xs ys long zeros zeros-2) ∙ take-append-drop (m + 1) ys

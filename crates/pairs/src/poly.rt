@@ -31,12 +31,8 @@ impl Poly {
         ensures self_after { self.new ≡ other.old }
         ensures other_after { other.new ≡ self.old }
     {
-        // By place: those above the degree hold zeros in both, and are not touched.
-        for j in 0..degree + 1 {
-            let x = self.coeffs[j];
-            self.coeffs[j] = other.coeffs[j];
-            other.coeffs[j] = x;
-        }
+        // Those above the degree hold zeros in both, and are not touched.
+        self.coeffs[..=degree].swap_with_slice(&mut other.coeffs[..=degree]);
     }
 }
 
