@@ -5,3 +5,5 @@ pub mod CellNumbers
 pub mod SameNumbers
 pub mod SameCells
 pub mod OneCard
+pub mod OneFault
+pub mod OneShape

@@ -43,10 +43,10 @@ small_below size [] bound below = tt
 small_below size (v ∷ vs) bound below = (omega (arith, below 0 (omega arith)), small_below size vs bound (λ j h. below (suc j) (omega arith)))
 
 -- two lists joined are told by their lengths
-split_first : (a b c d : List ℕ) → a ++ b ≡ c ++ d → length a ≡ length c → a ≡ c
+pub split_first : (a b c d : List ℕ) → a ++ b ≡ c ++ d → length a ≡ length c → a ≡ c
 split_first a b c d e same = sym (take_at a b (length a) refl) ∙ ap (take (length a)) e ∙ take_at c d (length a) (sym same)
 
-split_second : (a b c d : List ℕ) → a ++ b ≡ c ++ d → length a ≡ length c → b ≡ d
+pub split_second : (a b c d : List ℕ) → a ++ b ≡ c ++ d → length a ≡ length c → b ≡ d
 split_second a b c d e same = sym (drop_at a b (length a) refl) ∙ ap (drop (length a)) e ∙ drop_at c d (length a) (sym same)
 
 -- A card with these values, over a field with this meaning, and its body.
@@ -133,7 +133,7 @@ module _ (m : Meaning) (kind origin : ℕ) (code : Code) (body : List ℕ) (kind
       by_fault (Field cause) broken letters fits are count = broken
       by_fault (Tag cause) broken letters fits are count = broken
 
-same_code : (a b : Code) → a.letters ≡ b.letters → a.rows ≡ b.rows → a.locators ≡ b.locators → a.multipliers ≡ b.multipliers → a ≡ b
+pub same_code : (a b : Code) → a.letters ≡ b.letters → a.rows ≡ b.rows → a.locators ≡ b.locators → a.multipliers ≡ b.multipliers → a ≡ b
 same_code a b letters rows locators multipliers =
     ap₂ (λ n k. record { letters = n; rows = k; locators = a.locators; multipliers = a.multipliers }) letters rows
     ∙ ap₂ (λ (l k : List ℕ). record { letters = b.letters; rows = b.rows; locators = l; multipliers = k }) locators multipliers
@@ -163,7 +163,7 @@ module _ (body : List ℕ) (m n : Meaning) (kind origin other-kind other-origin 
       let lists-same = same_lists m kind origin a body kind_small origin_small checked written other also b.locators b.multipliers rest refl checked-2.shape.a_multiplier_each in
       same_code a b (sym (ap (λ (l : List ℕ). get_or l 2 0) heads)) (sym (ap (λ (l : List ℕ). get_or l 4 0) heads)) (sym lists-same.0) (sym lists-same.1)
 
-never_kinds : (n : ℕ) → n ≡ prime_kind → n ≡ binary_kind → ⊥
+pub never_kinds : (n : ℕ) → n ≡ prime_kind → n ≡ binary_kind → ⊥
 never_kinds n e f = omega (arith, e, f)
 
 module _ (body : List ℕ) (card : cards.Card PrimeField prime_field.ghosts) (is : PrimeCardIn body card) where

@@ -40,7 +40,7 @@ pub same_list : (vs ws bytes : List ℕ) → Begins vs bytes → Begins ws bytes
 same_list vs ws bytes first second same = begins_prefix vs ws bytes first second (omega arith) ∙ take_all (length vs) ws (omega arith)
 
 -- after fewer numbers there is one more
-next_number : (vs ws bytes : List ℕ) → Begins vs bytes → Begins ws bytes → length vs < length ws → (w : ℕ) × StandsFirst w (after vs bytes)
+pub next_number : (vs ws bytes : List ℕ) → Begins vs bytes → Begins ws bytes → length vs < length ws → (w : ℕ) × StandsFirst w (after vs bytes)
 next_number [] [] bytes first second fewer = absurd (omega arith)
 next_number [] (w ∷ ws) bytes first second fewer = (w, (head_of w ws bytes second).0)
 next_number (v ∷ vs) [] bytes first second fewer = absurd (omega arith)
@@ -54,12 +54,12 @@ next_number (v ∷ vs) (w ∷ ws) bytes first second fewer =
     ap (λ n. drop n bytes) (length-append (number_bytes v) (numbers vs)) ∙ sym (drop-drop (length (numbers vs)) (length (number_bytes v)) bytes) in
     (found.0, subst (StandsFirst found.0) (sym here) found.1)
 
-bad_never : (ws bytes : List ℕ) (wanted : ℕ) → Begins ws bytes → wanted ≤ length ws → Stops NoNumber wanted bytes → ⊥
+pub bad_never : (ws bytes : List ℕ) (wanted : ℕ) → Begins ws bytes → wanted ≤ length ws → Stops NoNumber wanted bytes → ⊥
 bad_never ws bytes wanted begins most stop =
     let found = next_number stop.values ws bytes stop.begins begins (omega (arith, stop.fewer)) in
     stop.missing.none found.0 found.1
 
-cut_never : (ws bytes : List ℕ) (wanted : ℕ) → Begins ws bytes → wanted ≤ length ws → Stops EndsInside wanted bytes → ⊥
+pub cut_never : (ws bytes : List ℕ) (wanted : ℕ) → Begins ws bytes → wanted ≤ length ws → Stops EndsInside wanted bytes → ⊥
 cut_never ws bytes wanted begins most stop =
     let found = next_number stop.values ws bytes stop.begins begins (omega (arith, stop.fewer)) in
     not_inside found.0 (after stop.values bytes) found.1 stop.missing

@@ -3,3 +3,4 @@ pub mod BodyOffsets
 pub mod RecordPlaces
 pub mod Runs
 pub mod OneRecord
+pub mod OneFile

@@ -1,5 +1,5 @@
 -- A record that stands first, in its turn, is the only answer. Assumes nothing.
-use Rattle.std.proofs.Common.{◌≡◌, ℕ, ◌+◌, ◌<◌, ◌≤◌, List, ◌++◌, length, take, drop, Some, None, Ok, Err, Option, sym, refl, ap, ◌∙◌, subst, ap₂, ⊎_elim, arith, lit≤}
+use Rattle.std.proofs.Common.{◌≡◌, ℕ, ◌+◌, ◌<◌, ◌≤◌, List, [], ◌++◌, length, take, drop, Some, None, Ok, Err, Option, sym, refl, ap, ◌∙◌, subst, ap₂, ⊎_elim, arith, lit≤}
 use Rattle.std.proofs.lemmas.List.{append_assoc, length-append, drop_at, take_at}
 use Rattle.numbers.specs.Numbers.{largest_number, number_bytes}
 use Rattle.numbers.specs.NumberReading.{StandsFirst, NumberRefused}
@@ -12,7 +12,7 @@ use Rattle.bodies.proofs.SameCells.{cells_never}
 use Rattle.trayfile.specs.Kinds.{kind_number}
 use Rattle.trayfile.specs.Turns.{task_for}
 use Rattle.trayfile.specs.Entries.{Entry, entry, entry_of, entry_bytes}
-use Rattle.trayfile.specs.Headers.{after_number, NoKind, StrangeKind, NotInTurn, NoLength, NoBody}
+use Rattle.trayfile.specs.Headers.{after_number, NoKind, StrangeKind, NotInTurn, NoLength, NoBody, HeaderRefused}
 use Rattle.trayfile.specs.Records.{Done, BodyRefused, Follows, EntryFirst, BodyWrong, RecordRefused}
 use Rattle.trayfile.specs.Readers.{left_of, RecordReadsBack}
 use Rattle.trayfile.specs.declared.fault.Fault.{Fault}
@@ -34,7 +34,7 @@ kind_small kinds.Card = lit≤ tt
 kind_small kinds.Cells = lit≤ tt
 kind_small kinds.Note = lit≤ tt
 
-one_kind : (a b : Kind) → kind_number a ≡ kind_number b → a ≡ b
+pub one_kind : (a b : Kind) → kind_number a ≡ kind_number b → a ≡ b
 one_kind kinds.Card kinds.Card e = refl
 one_kind kinds.Card kinds.Cells e = absurd (omega arith)
 one_kind kinds.Card kinds.Note e = absurd (omega arith)
@@ -45,14 +45,14 @@ one_kind kinds.Note kinds.Card e = absurd (omega arith)
 one_kind kinds.Note kinds.Cells e = absurd (omega arith)
 one_kind kinds.Note kinds.Note e = refl
 
-number_never : (value : ℕ) (bytes : List ℕ) (cause : NumberCause) → StandsFirst value bytes → NumberRefused bytes cause → ⊥
+pub number_never : (value : ℕ) (bytes : List ℕ) (cause : NumberCause) → StandsFirst value bytes → NumberRefused bytes cause → ⊥
 number_never value bytes CutOff first inside = not_inside value bytes first inside
 number_never value bytes BadNumber first bad = bad.none value first
 
-one_task : (o : Option Task) (a b : Task) → o ≡ Some a → o ≡ Some b → a ≡ b
+pub one_task : (o : Option Task) (a b : Task) → o ≡ Some a → o ≡ Some b → a ≡ b
 one_task o a b e f = cc
 
-no_task : (o : Option Task) (a : Task) → o ≡ Some a → o ≡ None → ⊥
+pub no_task : (o : Option Task) (a : Task) → o ≡ Some a → o ≡ None → ⊥
 no_task o a e f = let never : ◌≡◌ {A = ℕ} 0 1 = cc in absurd (omega arith)
 
 -- what an entry that stands first tells of the bytes
@@ -83,7 +83,7 @@ module _ (e : Entry) (bytes : List ℕ) (first : EntryFirst e bytes) (small : le
   after_size = ap (after_number n) after_kind ∙ drop_at (number_bytes n) (e.body ++ rest) (length (number_bytes n)) refl
 
 -- two entries that stand first are one
-same_entry : (e f : Entry) (bytes : List ℕ) → EntryFirst e bytes → length e.body ≤ largest_number → EntryFirst f bytes → length f.body ≤ largest_number → f ≡ e
+pub same_entry : (e f : Entry) (bytes : List ℕ) → EntryFirst e bytes → length e.body ≤ largest_number → EntryFirst f bytes → length f.body ≤ largest_number → f ≡ e
 same_entry e f bytes first small first-2 small-2 =
     let kinds-same = one_kind f.kind e.kind (same_number (kind_number f.kind) (kind_number e.kind) bytes (kind_first f bytes first-2 small-2) (kind_first e bytes first small)) in
     let size-2 = subst (λ (x : Kind). StandsFirst (length f.body) (after_number (kind_number x) bytes)) kinds-same (size_first f bytes first-2 small-2) in
@@ -95,20 +95,24 @@ same_entry e f bytes first small first-2 small-2 =
     ∙ take_at e.body (drop (length (entry_bytes e)) bytes) (length f.body) (sym sizes) in
     ap₂ (λ (x : Kind) (l : List ℕ). entry x l) kinds-same bodies-same
 
--- where an entry stands first, in its turn, there is no fault
-record_never : (turn : Turn) (place : ℕ) (bytes : List ℕ) (e : Entry) (next : Turn) (fault : Fault) → EntryFirst e bytes → Follows turn e next →
-    RecordRefused turn place bytes fault → ⊥
-record_never turn place bytes e next fault first follows refused =
-    let small = follows.small in
+-- an entry has bytes
+pub empty_never : (e : Entry) (bytes : List ℕ) → EntryFirst e bytes → bytes ≡ [] → ⊥
+empty_never e bytes first none =
+    let some = some_bytes (kind_number e.kind) in
+    omega (arith, ap length none, ap length first, length-append (entry_bytes e) (drop (length (entry_bytes e)) bytes), length-append (number_bytes (kind_number e.kind)) (number_bytes (length e.body) ++ e.body))
+
+-- where an entry in turn stands first, its kind and its length are not refused
+pub header_never : (turn : Turn) (place : ℕ) (bytes : List ℕ) (e : Entry) (task : Task) (fault : Fault) → EntryFirst e bytes → length e.body ≤ largest_number →
+    task_for turn e.kind ≡ Some task → HeaderRefused turn place bytes fault → ⊥
+header_never turn place bytes e task fault first small is_in_turn refused =
     let kind_stands = kind_first e bytes first small in
     let size-stands = size_first e bytes first small in
-    ⊎_elim
-    (⊎_elim (λ (x : NoKind place bytes fault). number_never (kind_number e.kind) bytes x.cause kind_stands x.refused)
+    ⊎_elim (λ (x : NoKind place bytes fault). number_never (kind_number e.kind) bytes x.cause kind_stands x.refused)
     (⊎_elim (λ (x : StrangeKind place bytes fault). x.strange e.kind (same_number x.number (kind_number e.kind) bytes x.stands kind_stands))
     (⊎_elim
     (λ (x : NotInTurn turn place bytes fault).
     let same = one_kind x.kind e.kind (same_number (kind_number x.kind) (kind_number e.kind) bytes x.stands kind_stands) in
-    no_task (task_for turn e.kind) follows.task follows.in_turn (subst (λ (y : Kind). task_for turn y ≡ None) same x.out))
+    no_task (task_for turn e.kind) task is_in_turn (subst (λ (y : Kind). task_for turn y ≡ None) same x.out))
     (⊎_elim
     (λ (x : NoLength turn place bytes fault).
     let same = one_kind x.kind e.kind (same_number (kind_number x.kind) (kind_number e.kind) bytes x.first.stands kind_stands) in
@@ -120,7 +124,15 @@ record_never turn place bytes e next fault first follows refused =
     let sizes = same_number x.size (length e.body) (after_number (kind_number e.kind) bytes) sized size-stands in
     let missing = subst (λ (y : Kind). length (after_number x.size (after_number (kind_number y) bytes)) < x.size) same x.missing in
     let here = subst (λ n. length (after_number n (after_number (kind_number e.kind) bytes)) < n) sizes missing in
-    omega (arith, here, ap length (after_size e bytes first small), length-append e.body (drop (length (entry_bytes e)) bytes)))))))
+    omega (arith, here, ap length (after_size e bytes first small), length-append e.body (drop (length (entry_bytes e)) bytes))))))
+    refused
+
+-- where an entry stands first, in its turn, there is no fault
+pub record_never : (turn : Turn) (place : ℕ) (bytes : List ℕ) (e : Entry) (next : Turn) (fault : Fault) → EntryFirst e bytes → Follows turn e next →
+    RecordRefused turn place bytes fault → ⊥
+record_never turn place bytes e next fault first follows refused =
+    let small = follows.small in
+    ⊎_elim (header_never turn place bytes e follows.task fault first small follows.in_turn)
     (λ (x : BodyWrong turn place bytes fault).
     let same = same_entry e x.whole bytes first small x.first x.small in
     let in_turn = subst (λ (y : Entry). task_for turn y.kind ≡ Some x.task) same x.in_turn in
@@ -134,8 +146,7 @@ not_both o fault e f = let never : ◌≡◌ {A = ℕ} 0 1 = cc in absurd (omega
 
 pub record_reads_back : RecordReadsBack
 record_reads_back before e next None after clear first follows step =
-    let some = some_bytes (kind_number e.kind) in
-    absurd (omega (arith, ap length step.none_left, ap length first, length-append (entry_bytes e) (drop (length (entry_bytes e)) (left_of before)), length-append (number_bytes (kind_number e.kind)) (number_bytes (length e.body) ++ e.body)))
+    absurd (empty_never e (left_of before) first step.none_left)
 record_reads_back before e next (Some (Err fault)) after clear first follows step =
     absurd (⊎_elim (not_both before.fault fault clear) (λ found. record_never before.turn before.place (left_of before) e next fault first follows found.2) step.cause)
 record_reads_back before e next (Some (Ok found)) after clear first follows step =

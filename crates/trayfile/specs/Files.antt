@@ -25,3 +25,7 @@ abbrev pub File : List ℕ → List Entry → Option Fault → Type 0
 File bytes es ending =
     ((longest_file < length bytes) × (es ≡ []) × (ending ≡ Some (fault_at 0 LongFile)))
     ⊎ ((length bytes ≤ longest_file) × FileFrom Start 0 bytes es ending)
+
+-- A file has only one list of records and only one end.
+abbrev pub OneFile : Type 0
+OneFile = (bytes : List ℕ) (es fs : List Entry) (a b : Option Fault) → File bytes es a → File bytes fs b → (es ≡ fs) × (a ≡ b)

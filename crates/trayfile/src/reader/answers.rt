@@ -1,6 +1,7 @@
 // The reader's answers, one record after another.
 ghost use Rattle.std.specs.Prelude.{◌≡◌};
 ghost use Rattle.trayfile.specs.Readers.{Opened, Next, EveryRun, RecordReadsBack};
+ghost use Rattle.trayfile.specs.Files.{OneFile};
 
 use crate::fault::{Fault, file_fault};
 use crate::limits::LONGEST_FILE;
@@ -38,6 +39,7 @@ impl<'a> TrayReader<'a> {
         ensures step { Next self.old result self.new }
         ensures runs { EveryRun }
         ensures back { RecordReadsBack }
+        ensures one { OneFile }
     {
         if let Some(fault) = self.fault {
             return Some(Err(fault));

@@ -4,6 +4,7 @@ use Rattle.trayfile.specs.Entries.{Entry, entry}
 use Rattle.trayfile.specs.Records.{RecordIn}
 use Rattle.trayfile.proofs.Runs.{every_run}
 use Rattle.trayfile.proofs.OneRecord.{record_reads_back}
+use Rattle.trayfile.proofs.OneFile.{one_file}
 use Rattle.trayfile.proofs.reader.TrayReader.next.Goals as goal
 
 pub returns-in-Some : goal.returns-in-Some
@@ -12,6 +13,7 @@ returns-in-Some c =
       step = record { cause = inl c.in-Some.is; kept = c.in-Some.is; same_file = refl; same_place = refl; same_turn = refl };
       runs = every_run;
       back = record_reads_back;
+      one = one_file;
     }
 
 pub returns-then-self : goal.returns-then-self
@@ -20,6 +22,7 @@ returns-then-self c =
       step = record { no_fault = c.in_default.is; none_left = drop_all c.args.self.now.place c.args.self.now.file.now c.if-self.true; same = refl };
       runs = every_run;
       back = record_reads_back;
+      one = one_file;
     }
 
 pub returns-in-Ok : goal.returns-in-Ok
@@ -36,6 +39,7 @@ returns-in-Ok c =
       };
       runs = every_run;
       back = record_reads_back;
+      one = one_file;
     }
 
 pub returns-in-Err : goal.returns-in-Err
@@ -52,4 +56,5 @@ returns-in-Err c =
       };
       runs = every_run;
       back = record_reads_back;
+      one = one_file;
     }
