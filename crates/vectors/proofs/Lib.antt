@@ -1,1 +1,2 @@
 pub mod WorkedSums
+pub mod Texts

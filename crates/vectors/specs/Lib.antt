@@ -2,3 +2,5 @@ pub mod WorkedSums
 pub mod Degrees
 pub mod Fold
 pub mod Parts
+pub mod Answers
+pub mod InverseText

@@ -1,6 +1,7 @@
 -- What the text of a case says. Assumes nothing.
-use Rattle.std.specs.Prelude.{◌≡◌, ℕ, zero, suc, ◌==◌, Bool, List, length, map, filter, nat_lt, codes, cond}
+use Rattle.std.specs.Prelude.{ℕ, zero, suc, ◌==◌, Bool, List, length, map, filter, nat_lt, codes, cond}
 use Rattle.std.specs.List.{before_first, after_first, slice_split}
+use Rattle.codes.specs.Code.{Code}
 use Rattle.codes.specs.Cells.{blank_cell, noted_cell}
 use Rattle.codes.specs.declared.cell.Cell.{Cell}
 use Rattle.std.specs.Str.{bytes_eq}
@@ -22,14 +23,18 @@ words text = filter (λ word. nat_lt 0 (length word)) (slice_split (λ b. b == 3
 abbrev pub number_of : List ℕ → ℕ
 number_of word = digits_value 10 (without_leading_plus word)
 
--- the numbers are those of the words
-abbrev pub NumbersOf : List ℕ → List ℕ → Type 0
-NumbersOf text numbers = numbers ≡ map number_of (words text)
+-- the numbers of the words
+abbrev pub numbers_in : List ℕ → List ℕ
+numbers_in text = map number_of (words text)
 
 -- a blank for '?', and else the letter that the word is
 abbrev pub cell_of : List ℕ → Cell
 cell_of word = cond (bytes_eq word (codes "?")) blank_cell (noted_cell (number_of word))
 
--- the cells are those of the words
-abbrev pub CellsOf : List ℕ → List Cell → Type 0
-CellsOf text cells = cells ≡ map cell_of (words text)
+-- the cells of the words
+abbrev pub cells_in : List ℕ → List Cell
+cells_in text = map cell_of (words text)
+
+-- the code of a text of locators; multipliers; what follows
+abbrev pub code_in : ℕ → ℕ → List ℕ → Code
+code_in letters rows text = record { letters = letters; rows = rows; locators = numbers_in (part 0 text); multipliers = numbers_in (part 1 text) }

@@ -1,6 +1,11 @@
 // The cases and their answers.
+ghost use Rattle.std.specs.Prelude.{◌≡◌, IfOk, string_bytes};
+ghost use Rattle.vectors.specs.Answers.{RefusedText, taken_text, ArithmeticText, inverses_text, products_text, SumsAnswered, RealiseAnswered};
+ghost use Rattle.vectors.specs.Parts.{numbers_in};
+
 use crate::code_case::CodeCase;
 use crate::fold::folded_products;
+use crate::inverse::Inverse;
 use crate::numbers::{read_cells, read_numbers, up_to_degree};
 use crate::parts::cut;
 use algebra::COEFFICIENTS;
@@ -64,8 +69,11 @@ fn refused(
     heap: Global,
     number: u32,
     cause: impl std::fmt::Display + Drop,
-) -> anyhow::Result<String> {
-    Ok(format!(in heap; "refused {number} {cause}")?)
+) -> anyhow::Result<String>
+    ensures { IfOk result (λ text. RefusedText number (string_bytes text)) }
+{
+    let word = cause.to_string(heap)?;
+    Ok(format!(in heap; "refused {number} {word}")?)
 }
 
 fn field_case<F: LetteredField + Drop>(case: Case<'_>, field: F) -> anyhow::Result<String>
@@ -87,13 +95,17 @@ fn field_case<F: LetteredField + Drop>(case: Case<'_>, field: F) -> anyhow::Resu
     }
 }
 
-fn taken<F: LetteredField>(case: Case<'_>, field: &F) -> anyhow::Result<String> {
+fn taken<F: LetteredField>(case: Case<'_>, field: &F) -> anyhow::Result<String>
+    ensures { IfOk result (λ text. string_bytes text ≡ taken_text (F.Field.meaning field.now).arithmetic) }
+{
     let size = field.size();
     Ok(format!(in case.heap; "taken, {size} elements")?)
 }
 
 // a b: the sum, the difference and the product.
-fn arithmetic<F: LetteredField>(case: Case<'_>, field: &F) -> anyhow::Result<String> {
+fn arithmetic<F: LetteredField>(case: Case<'_>, field: &F) -> anyhow::Result<String>
+    ensures { IfOk result (λ text. ArithmeticText (F.Field.meaning field.now).arithmetic case.entry.numbers.now (string_bytes text)) }
+{
     let [a, b] = case.numbers else {
         bail!("arithmetic takes two numbers")
     };
@@ -104,19 +116,23 @@ fn arithmetic<F: LetteredField>(case: Case<'_>, field: &F) -> anyhow::Result<Str
 }
 
 // The inverses of 0 to q, '-' where there is none.
-fn inverses<F: LetteredField>(case: Case<'_>, field: &F) -> anyhow::Result<String> {
+fn inverses<F: LetteredField>(case: Case<'_>, field: &F) -> anyhow::Result<String>
+    ensures { IfOk result (λ text. string_bytes text ≡ inverses_text (F.Field.meaning field.now)) }
+{
     let mut out = format!(in case.heap; "inverses")?;
     for a in 0..=field.size() {
-        match field.invert(a) {
-            Some(b) => write!(out, " {b}")?,
-            None => write!(out, " -")?,
-        }
+        let inverse = Inverse {
+            value: field.invert(a),
+        };
+        write!(out, "{inverse}")?;
     }
     Ok(out)
 }
 
 // For each element a one number, made of its products with every element.
-fn products<F: LetteredField>(case: Case<'_>, field: &F) -> anyhow::Result<String> {
+fn products<F: LetteredField>(case: Case<'_>, field: &F) -> anyhow::Result<String>
+    ensures { IfOk result (λ text. string_bytes text ≡ products_text (F.Field.meaning field.now).arithmetic) }
+{
     let mut out = format!(in case.heap; "products")?;
     for a in 0..field.size() {
         let folded = folded_products(field, a);
@@ -137,7 +153,9 @@ fn admits<F: LetteredField>(case: Case<'_>, field: &F) -> anyhow::Result<String>
 }
 
 // r; locators; multipliers; cells: the r sums.
-fn sums_case<F: LetteredField + Drop>(case: Case<'_>, field: F) -> anyhow::Result<String> {
+fn sums_case<F: LetteredField + Drop>(case: Case<'_>, field: F) -> anyhow::Result<String>
+    ensures { IfOk result (λ text. SumsAnswered (F.Field.meaning field).arithmetic case.entry.numbers.now case.entry.rest.now (string_bytes text)) }
+{
     let heap = case.heap;
     let [rows] = case.numbers else {
         bail!("sums begin with the rows")
@@ -161,7 +179,9 @@ fn sums_case<F: LetteredField + Drop>(case: Case<'_>, field: F) -> anyhow::Resul
 }
 
 // ;sequence: the degree of the minimal pair, then f and w up to their degrees.
-fn realise_case<F: LetteredField>(case: Case<'_>, field: &F) -> anyhow::Result<String> {
+fn realise_case<F: LetteredField>(case: Case<'_>, field: &F) -> anyhow::Result<String>
+    ensures { IfOk result (λ text. RealiseAnswered (F.Field.meaning field.now).arithmetic (numbers_in case.entry.rest.now) (string_bytes text)) }
+{
     let sequence = read_numbers(case.heap, case.rest)?;
     let mut f = [0; COEFFICIENTS];
     let mut w = [0; COEFFICIENTS];

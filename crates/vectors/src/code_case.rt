@@ -1,6 +1,6 @@
 // The code of a case, and what stands after it.
 ghost use Rattle.std.specs.Prelude.{◌≡◌, IfOk};
-ghost use Rattle.vectors.specs.Parts.{part, NumbersOf};
+ghost use Rattle.vectors.specs.Parts.{part, numbers_in};
 
 use crate::numbers::read_numbers;
 use crate::parts::cut;
@@ -27,8 +27,8 @@ impl<'a> CodeCase<'a> {
     ) -> anyhow::Result<CodeCase<'a>>
         ensures letters { IfOk result (λ case. case.letters ≡ letters) }
         ensures rows { IfOk result (λ case. case.rows ≡ rows) }
-        ensures locators { IfOk result (λ case. NumbersOf (part 0 text.now) case.locators.items) }
-        ensures multipliers { IfOk result (λ case. NumbersOf (part 1 text.now) case.multipliers.items) }
+        ensures locators { IfOk result (λ case. case.locators.items ≡ numbers_in (part 0 text.now)) }
+        ensures multipliers { IfOk result (λ case. case.multipliers.items ≡ numbers_in (part 1 text.now)) }
         ensures last { IfOk result (λ case. case.last.now ≡ part 2 text.now) }
     {
         let (locators, rest) = cut(text);

@@ -4,6 +4,7 @@
 mod cases;
 mod code_case;
 mod fold;
+mod inverse;
 mod numbers;
 mod parts;
 mod worked;

@@ -1,13 +1,13 @@
 // Numbers and cells, read from a case and shown in its answer.
-ghost use Rattle.std.specs.Prelude.{IfOk};
+ghost use Rattle.std.specs.Prelude.{◌≡◌, IfOk};
 ghost use Rattle.vectors.specs.Degrees.{UpToDegree};
-ghost use Rattle.vectors.specs.Parts.{NumbersOf, CellsOf};
+ghost use Rattle.vectors.specs.Parts.{numbers_in, cells_in};
 
 use codes::{Cell, Word};
 use std::alloc::Global;
 
 pub fn read_numbers(heap: Global, text: &str) -> anyhow::Result<Vec<u32>>
-    ensures { IfOk result (λ numbers. NumbersOf text.now numbers.items) }
+    ensures { IfOk result (λ numbers. numbers.items ≡ numbers_in text.now) }
 {
     let mut numbers = Vec::new(heap);
     for word in text.split(' ') {
@@ -20,7 +20,7 @@ pub fn read_numbers(heap: Global, text: &str) -> anyhow::Result<Vec<u32>>
 
 // A blank is written '?'.
 pub fn read_cells(heap: Global, text: &str) -> anyhow::Result<Vec<Cell>>
-    ensures { IfOk result (λ cells. CellsOf text.now cells.items) }
+    ensures { IfOk result (λ cells. cells.items ≡ cells_in text.now) }
 {
     let mut cells = Vec::new(heap);
     for word in text.split(' ') {

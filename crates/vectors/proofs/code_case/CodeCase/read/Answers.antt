@@ -1,6 +1,6 @@
 use Rattle.std.proofs.Common.{◌≡◌, ap, ◌∙◌, List, ℕ, subst}
 use Rattle.std.specs.List.{before_first, after_first}
-use Rattle.vectors.specs.Parts.{part, semicolon, NumbersOf}
+use Rattle.vectors.specs.Parts.{part, semicolon, numbers_in}
 use Rattle.vectors.proofs.code_case.CodeCase.read.Goals as goal
 
 -- the front of what stands after the first part, and of what stands after that
@@ -14,11 +14,11 @@ third text rest last front rest-is last-is front-is = front-is ∙ ap (before_fi
 
 pub returns-clause-locators : goal.returns-clause-locators
 unfolding part
-returns-clause-locators c = subst (λ (text : List ℕ). NumbersOf text c.in_ok-locators.locators.items) c.cut.ensures.before c.in_ok-locators.ensures
+returns-clause-locators c = subst (λ (text : List ℕ). c.in_ok-locators.locators.items ≡ numbers_in text) c.cut.ensures.before c.in_ok-locators.ensures
 
 pub returns-clause-multipliers : goal.returns-clause-multipliers
 returns-clause-multipliers c =
-    subst (λ (text : List ℕ). NumbersOf text c.in_ok-multipliers.multipliers.items) (second _ _ _ c.cut.ensures.after c.cut-2.ensures.before) c.in_ok-multipliers.ensures
+    subst (λ (text : List ℕ). c.in_ok-multipliers.multipliers.items ≡ numbers_in text) (second _ _ _ c.cut.ensures.after c.cut-2.ensures.before) c.in_ok-multipliers.ensures
 
 pub returns-clause-last : goal.returns-clause-last
 returns-clause-last c = third _ _ _ _ c.cut.ensures.after c.cut-2.ensures.after c.cut-3.ensures.before

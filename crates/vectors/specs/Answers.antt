@@ -1,0 +1,57 @@
+-- The text that answers a case. Assumes nothing.
+use Rattle.std.specs.Prelude.{◌≡◌, ℕ, ◌+◌, List, [], ◌∷◌, ◌++◌, Ok, Err, Result, replicate, codes, decimal, flat_map}
+use Rattle.std.specs.List.{range_with_len}
+use Rattle.algebra.specs.Meaning.{Arithmetic, Meaning}
+use Rattle.algebra.specs.Limits.{coefficients}
+use Rattle.codes.specs.Sums.{Summed, sums_number}
+use Rattle.codes.specs.declared.syndromes.SumsRefusal.{SumsRefusal}
+use Rattle.codes.specs.WordText.{letter_text, word_text}
+use Rattle.pairs.specs.MinimalPair.{Realised, realise_number}
+use Rattle.pairs.specs.declared.minimal_pair.RealiseRefusal.{RealiseRefusal}
+use Rattle.vectors.specs.Degrees.{UpToDegree}
+use Rattle.vectors.specs.Parts.{part, cells_in, code_in}
+use Rattle.vectors.specs.InverseText.{inverse_text}
+use Rattle.vectors.specs.Fold.{folded}
+
+-- the refusal's number, and its word
+abbrev pub RefusedText : ℕ → List ℕ → Type 0
+RefusedText number text = (word : List ℕ) × (text ≡ codes "refused " ++ (decimal number ++ (codes " " ++ word)))
+
+abbrev pub taken_text : Arithmetic → List ℕ
+taken_text A = codes "taken, " ++ (decimal A.size ++ codes " elements")
+
+-- of two numbers the sum, the difference and the product
+abbrev pub ArithmeticText : Arithmetic → List ℕ → List ℕ → Type 0
+ArithmeticText A numbers text =
+    (a : ℕ) × (b : ℕ) × (numbers ≡ a ∷ b ∷ [])
+    × (text ≡ decimal (A.plus a b) ++ (codes " " ++ (decimal (A.minus a b) ++ (codes " " ++ decimal (A.times a b)))))
+
+-- the inverses of 0 to q
+abbrev pub inverses_text : Meaning → List ℕ
+inverses_text meaning = codes "inverses" ++ flat_map (λ a. inverse_text (meaning.inverse a)) (range_with_len 0 (meaning.arithmetic.size + 1))
+
+-- for each element its products in one number
+abbrev pub products_text : Arithmetic → List ℕ
+products_text A = codes "products" ++ flat_map (λ a. letter_text (folded A a A.size)) (range_with_len 0 A.size)
+
+abbrev pub SumsText : Result (Unit {0}) SumsRefusal → List ℕ → List ℕ → Type 0
+SumsText (Ok done) sums text = text ≡ codes "sums" ++ word_text sums
+SumsText (Err refusal) sums text = RefusedText (sums_number refusal) text
+
+-- of the rows, and a text of locators; multipliers; cells: the sums in a buffer of so many rows, or the refusal
+abbrev pub SumsAnswered : Arithmetic → List ℕ → List ℕ → List ℕ → Type 0
+SumsAnswered A numbers rest text =
+    (rows : ℕ) × (sums : List ℕ) × (answer : Result (Unit {0}) SumsRefusal) × (numbers ≡ rows ∷ [])
+    × Summed A (code_in A.size rows rest) (cells_in (part 2 rest)) (replicate rows 0) sums answer × SumsText answer sums text
+
+abbrev pub RealiseText : Result ℕ RealiseRefusal → List ℕ → List ℕ → List ℕ → Type 0
+RealiseText (Ok degree) f w text =
+    (f_shown : List ℕ) × (w_shown : List ℕ) × UpToDegree f f_shown × UpToDegree w w_shown
+    × (text ≡ codes "degree " ++ (decimal degree ++ (codes ", f" ++ (word_text f_shown ++ (codes ", w" ++ word_text w_shown)))))
+RealiseText (Err refusal) f w text = RefusedText (realise_number refusal) text
+
+-- of a sequence the minimal pair, each polynomial up to its degree, or the refusal
+abbrev pub RealiseAnswered : Arithmetic → List ℕ → List ℕ → Type 0
+RealiseAnswered A sequence text =
+    (f : List ℕ) × (w : List ℕ) × (answer : Result ℕ RealiseRefusal)
+    × Realised A sequence (replicate coefficients 0) (replicate coefficients 0) f w answer × RealiseText answer f w text
