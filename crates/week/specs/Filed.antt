@@ -28,7 +28,7 @@ file_room = 128
 
 -- The file is the card's record and the cells'. It is refused where a cell holds no letter, or where both are longer than the room.
 abbrev pub FiledTag : List Cell → Result (ArrayVec ℕ) WriteRefusal → Type 0
-FiledTag cells (Ok file) = file.items ≡ card_record ++ cells_record cells
+FiledTag cells (Ok file) = Lettered inked_letters cells × (file.items ≡ card_record ++ cells_record cells)
 FiledTag cells (Err NoLetter) = Lettered inked_letters cells → ⊥
 FiledTag cells (Err TooSmall) = file_room < length card_record + length (cells_record cells)
 FiledTag cells (Err WrongLength) = ⊥

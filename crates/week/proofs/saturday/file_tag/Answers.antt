@@ -3,6 +3,8 @@ use borrow.Rule.Slice.PartMut.{put_mid}
 use Rattle.std.specs.Result.{IsErrAnd, MatchResult}
 use Rattle.arrayvec.specs.ArrayVec.{ArrayVec}
 use Rattle.arrayvec.specs.declared.errors.CapacityError.{CapacityError}
+use Rattle.codes.specs.Code.{Code}
+use Rattle.codes.specs.Verdicts.{Lettered}
 use Rattle.codes.specs.declared.cell.Cell.{Cell}
 use Rattle.traywriter.specs.declared.write_refusal.WriteRefusal.{WriteRefusal}
 use Rattle.week.specs.Filed.{card_record, cells_record, FiledTag}
@@ -38,8 +40,11 @@ unfolding card_record cells_record
 returns c =
     let card = c.inked_card.ensures in
     let first = card_put _ _ _ _ _ card.made_from card.values c.in_ok-first.ensures.written in
-    let second = c.in_ok-second.ensures.written.2 in
-    let all : c.in_ok-first.first + c.in_ok-second.second - 0 ≡ c.in_ok-first.first + c.in_ok-second.second = omega arith in
-    kept _ c.try_from.result c.unwrap.result c.unwrap.ensures c.try_from.ensures
-    ∙ ap (λ n. take n (put_mid c.in_ok-first.first (128 - c.in_ok-first.first) c.write_card.new.buffer c.write_cells.new.buffer)) all
-    ∙ both c.in_ok-first.first c.in_ok-second.second card_record (cells_record c.args.cells.now) _ _ _ _ _ first.size second.size first.bytes second.bytes
+    let written = c.in_ok-second.ensures.written in
+    let second = written.2 in
+    let all : c.in_ok-first.first + c.in_ok-second.second - 0 ≡ c.in_ok-first.first + c.in_ok-second.second = omega arith in (
+      subst (λ (k : Code). Lettered k.letters c.args.cells.now) c.inked_card-2.ensures.values written.1,
+      kept _ c.try_from.result c.unwrap.result c.unwrap.ensures c.try_from.ensures
+          ∙ ap (λ n. take n (put_mid c.in_ok-first.first (128 - c.in_ok-first.first) c.write_card.new.buffer c.write_cells.new.buffer)) all
+          ∙ both c.in_ok-first.first c.in_ok-second.second card_record (cells_record c.args.cells.now) _ _ _ _ _ first.size second.size first.bytes second.bytes,
+    )
