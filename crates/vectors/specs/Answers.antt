@@ -1,8 +1,12 @@
 -- The text that answers a case. Assumes nothing.
-use Rattle.std.specs.Prelude.{◌≡◌, ℕ, ◌+◌, List, [], ◌∷◌, ◌++◌, Ok, Err, Result, replicate, codes, decimal, flat_map}
+use Rattle.std.specs.Prelude.{◌≡◌, ◌⊎◌, ℕ, ◌+◌, List, [], ◌∷◌, ◌++◌, Ok, Err, Result, replicate, codes, decimal, flat_map}
 use Rattle.std.specs.List.{range_with_len}
 use Rattle.algebra.specs.Meaning.{Arithmetic, Meaning}
 use Rattle.algebra.specs.Limits.{coefficients}
+use Rattle.codes.specs.Code.{Code}
+use Rattle.codes.specs.Checked.{Checked}
+use Rattle.codes.specs.Cards.{CardRefused, card_number}
+use Rattle.codes.specs.declared.card_cause.CardCause.{CardCause}
 use Rattle.codes.specs.Sums.{Summed, sums_number}
 use Rattle.codes.specs.declared.syndromes.SumsRefusal.{SumsRefusal}
 use Rattle.codes.specs.WordText.{letter_text, word_text}
@@ -55,3 +59,11 @@ abbrev pub RealiseAnswered : Arithmetic → List ℕ → List ℕ → Type 0
 RealiseAnswered A sequence text =
     (f : List ℕ) × (w : List ℕ) × (answer : Result ℕ RealiseRefusal)
     × Realised A sequence (replicate coefficients 0) (replicate coefficients 0) f w answer × RealiseText answer f w text
+
+-- the code is checked, or the first rule that it breaks is told
+abbrev pub CardText : Meaning → Code → List ℕ → Type 0
+CardText m code text = (Checked m code × (text ≡ codes "card granted")) ⊎ ((cause : CardCause) × CardRefused m code cause × RefusedText (card_number cause) text)
+
+-- of the letters, the rows, and a text of locators; multipliers
+abbrev pub CardAnswered : Meaning → List ℕ → List ℕ → List ℕ → Type 0
+CardAnswered m numbers rest text = (letters : ℕ) × (rows : ℕ) × (numbers ≡ letters ∷ rows ∷ []) × CardText m (code_in letters rows rest) text

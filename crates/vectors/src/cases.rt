@@ -1,6 +1,6 @@
 // The cases and their answers.
 ghost use Rattle.std.specs.Prelude.{◌≡◌, IfOk, string_bytes};
-ghost use Rattle.vectors.specs.Answers.{RefusedText, taken_text, ArithmeticText, inverses_text, products_text, SumsAnswered, RealiseAnswered};
+ghost use Rattle.vectors.specs.Answers.{RefusedText, taken_text, ArithmeticText, inverses_text, products_text, SumsAnswered, RealiseAnswered, CardAnswered};
 ghost use Rattle.vectors.specs.Parts.{numbers_in};
 
 use crate::code_case::CodeCase;
@@ -198,6 +198,7 @@ fn realise_case<F: LetteredField>(case: Case<'_>, field: &F) -> anyhow::Result<S
 // letters r; locators; multipliers: whether the check grants the card.
 fn card_case<F: LetteredField + Drop>(case: Case<'_>, field: F) -> anyhow::Result<String>
     requires { F.Field.accepted field }
+    ensures { IfOk result (λ text. CardAnswered (F.Field.meaning field) case.entry.numbers.now case.entry.rest.now (string_bytes text)) }
 {
     let heap = case.heap;
     let [letters, rows] = case.numbers else {
