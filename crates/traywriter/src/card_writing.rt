@@ -30,7 +30,7 @@ pub fn write_card(card: &AnyCard, buffer: &mut [u8]) -> Result<usize, WriteRefus
     }
 }
 
-// A card's values, over a field of this kind, made from `origin`.
+// A card's values, over a field of this kind, made from `origin`. The kind is a number, since each kind of field states its own.
 fn write_values(
     kind: u32,
     origin: u32,
