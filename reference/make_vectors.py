@@ -17,6 +17,32 @@ FOLDER = Path(__file__).resolve().parent.parent / "crates" / "vectors"
 MODULI = [f for f in range(LARGEST_MODULUS + 1) if irreducible(f)]
 ALL_FIELDS = [Prime(p) for p in PRIMES] + [Binary(f) for f in MODULI]
 SOME_FIELDS = [Prime(p) for p in PRIMES] + [Binary(f) for f in (2, 3, 7, 11, 13, 19, 37, 67, 131, 283, 285)]
+REFUSAL_WORDS = {
+    10: "no such field",
+    11: "no prime",
+    12: "bad modulus",
+    13: "bad shape",
+    14: "no alphabet",
+    15: "bad locator",
+    16: "bad multiplier",
+    17: "no element",
+    18: "no house card",
+    21: "no such cell",
+    22: "no letter",
+    23: "too blank",
+    24: "lost",
+    25: "wrong length",
+    26: "part alphabet",
+    28: "bad mark",
+    31: "cut off",
+    32: "bad number",
+    33: "strange record",
+    34: "out of turn",
+    35: "bad body",
+    36: "bad note",
+    37: "long file",
+    38: "too small",
+}
 cases, answers = [], []
 
 
@@ -213,12 +239,11 @@ def cards(rng):
 
 # book numbers that are printed elsewhere, and two more; the last letter of each is the check letter, and X is 10
 BOOK_NUMBERS = ("0306406152", "0198526636", "080442957X", "0000000000", "9999999999")
-REFUSALS = {22: "no letter", 25: "wrong length", 26: "part alphabet"}
 
 
 def encode_case(field, letters, rows, locators, multipliers, data):
     got = encode(field, letters, rows, list(locators), list(multipliers), list(data))
-    answer = f"word {words(got)}" if isinstance(got, list) else f"refused {got} {REFUSALS[got]}"
+    answer = f"word {words(got)}" if isinstance(got, list) else f"refused {got} {REFUSAL_WORDS[got]}"
     case(f"encode {named(field)} {letters} {rows};{words(locators)};{words(multipliers)};{words(data)}", answer)
 
 
@@ -250,12 +275,11 @@ def encodings(rng):
             encode_case(field, q, rows, locators, multipliers, [rng.randrange(q) for _ in range(n - rows)])
 
 
-READ_REFUSALS = {23: "too blank", 24: "lost"}
 
 
 def read_case(field, letters, rows, locators, multipliers, cells, got):
     if isinstance(got, int):
-        answer = f"refused {got} {READ_REFUSALS[got]}"
+        answer = f"refused {got} {REFUSAL_WORDS[got]}"
     else:
         answer = f"{got[0]} wrong, {got[1]} blank, word {words(got[2])}"
     case(f"read {named(field)} {letters} {rows};{words(locators)};{words(multipliers)};{words(cells)}", answer)
@@ -354,6 +378,20 @@ def lines(rng):
         line_case(letters, n if rng.random() < 0.9 else n + 1, text)
 
 
+def eight_letters():
+    # seven cells and all eight letters of the field
+    places = list(range(1, 8))
+    for cells in ([1, None, 0, None, 0, 0, 0], [1, 2, 0, 6, 0, 0, 5], [None] * 3 + [6, 0, 0, 0]):
+        card = (Binary(11), 8, 2, places, places)
+        read_case(*card, cells, read_by_choice(*card, cells))
+
+
+def refusals():
+    for number, word in REFUSAL_WORDS.items():
+        case(f"refusal {number}", f"refused {number} {word}")
+    case("refusal 19", "no refusal has this number")
+
+
 def main():
     rng = random.Random(37)
     fields()
@@ -366,6 +404,8 @@ def main():
     large_readings(rng)
     readings_past_the_bound(rng)
     lines(rng)
+    eight_letters()
+    refusals()
     (FOLDER / "stdin").write_text("\n".join(cases) + "\n", encoding="utf-8")
     proved = ["proved: [5, 4, 0, 5] [0]"]
     (FOLDER / "stdout").write_text("\n".join(proved + answers) + "\n", encoding="utf-8")

@@ -21,6 +21,10 @@ use Rattle.vectors.specs.Fold.{folded}
 abbrev pub RefusedText : ℕ → List ℕ → Type 0
 RefusedText number text = (word : List ℕ) × (text ≡ codes "refused " ++ (decimal number ++ (codes " " ++ word)))
 
+-- the refusal with this number, or that there is none
+abbrev pub RefusalShown : ℕ → List ℕ → Type 0
+RefusalShown number text = RefusedText number text ⊎ (text ≡ codes "no refusal has this number")
+
 abbrev pub taken_text : Arithmetic → List ℕ
 taken_text A = codes "taken, " ++ (decimal A.size ++ codes " elements")
 

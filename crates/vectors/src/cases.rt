@@ -6,8 +6,9 @@ ghost use Rattle.vectors.specs.Parts.{numbers_in};
 use crate::code_case::CodeCase;
 use crate::fold::folded_products;
 use crate::inverse::Inverse;
-use crate::numbers::{read_cells, read_numbers, up_to_degree};
+use crate::number_lists::{read_cells, read_numbers, up_to_degree};
 use crate::parts::cut;
+use crate::refusals::refusal;
 use algebra::COEFFICIENTS;
 use anyhow::bail;
 use codes::{Card, Cell, CellRow, CodeOver, Word};
@@ -28,13 +29,20 @@ struct Case<'a> {
     rest: &'a str,
 }
 
-// A case is a word and its argument. All but a line begin with a field: its kind, and what it is made from.
+// A case is a word and its argument. All but a line and a refusal begin with a field: its kind, and what it is made from.
 pub fn answer(heap: Global, line: &str) -> anyhow::Result<String> {
     let Some((word, argument)) = line.split_once(' ') else {
         bail!("a case has a word and its argument")
     };
     if word == "line" {
         return line_case(heap, argument);
+    }
+    if word == "refusal" {
+        let numbers = read_numbers(heap, argument)?;
+        let [number] = numbers.as_slice() else {
+            bail!("a refusal has a number")
+        };
+        return refusal(heap, *number);
     }
     let (head, rest) = cut(argument);
     let numbers = read_numbers(heap, head)?;
@@ -65,7 +73,7 @@ pub fn answer(heap: Global, line: &str) -> anyhow::Result<String> {
 }
 
 // The number comes beside the refusal: each kind of refusal has a `number` of its own.
-fn refused(
+pub fn refused(
     heap: Global,
     number: u32,
     cause: impl std::fmt::Display + Drop,

@@ -2,7 +2,7 @@
 ghost use Rattle.std.specs.Prelude.{◌≡◌, IfOk};
 ghost use Rattle.vectors.specs.Parts.{part, numbers_in};
 
-use crate::numbers::read_numbers;
+use crate::number_lists::read_numbers;
 use crate::parts::cut;
 use codes::CodeRef;
 use std::alloc::Global;

@@ -5,8 +5,9 @@ mod cases;
 mod code_case;
 mod fold;
 mod inverse;
-mod numbers;
+mod number_lists;
 mod parts;
+mod refusals;
 mod worked;
 
 use cases::answer;

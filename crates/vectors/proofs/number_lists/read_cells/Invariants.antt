@@ -1,6 +1,6 @@
 use Rattle.std.proofs.Common.{◌≡◌, map, filter, length, nat_lt}
 use Rattle.vectors.specs.Parts.{cell_of}
-use Rattle.vectors.proofs.numbers.read_cells.Given as goal
+use Rattle.vectors.proofs.number_lists.read_cells.Given as goal
 
 -- the cells of the words so far
 abbrev pub invariant-loop-word : goal.invariant-loop-word
