@@ -15,6 +15,7 @@ pub fn read_card(body: &[u8]) -> Result<AnyCard, BodyFault>
 {
     let read = read_head(body)?;
     let origin = read.head.origin;
+    // Each kind of field states its own number, which the reader and the writer of cards read.
     match read.head.kind {
         PrimeField::KIND => {
             let field = PrimeField::new(origin)?;

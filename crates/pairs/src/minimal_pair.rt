@@ -33,7 +33,8 @@ struct Pair {
     w: Poly,
 }
 
-// What the algorithm holds between two numbers of the sequence.
+// What the algorithm holds between two numbers of the sequence. That nothing but zeros stands above the degree (`Bounded`) is asked for
+// by the calls of a step; no ghost field keeps it, since they change one field after another.
 #[derive(Drop)]
 struct State {
     pair: Pair,

@@ -23,7 +23,7 @@ impl Poly {
         Poly { coeffs }
     }
 
-    // Puts two polynomials in each other's places.
+    // Puts two polynomials in each other's places, up to X^degree; above it both are 0.
     pub fn exchange(&mut self, other: &mut Poly, degree: usize)
         requires small { degree < coefficients }
         requires up_to { UpTo degree self.old }
@@ -51,7 +51,8 @@ impl Combination {
         requires { UpTo self.now.degree p.old }
         ensures { p.new ≡ combined (F.Field.meaning field.now).arithmetic self.now.a p.old self.now.b self.now.d q.now self.now.degree }
     {
-        // By place: those above the degree hold zeros, and are not touched.
+        // By place: `array::from_fn` goes through all 65, and those above the degree hold zeros and are not to be touched; a coefficient
+        // reads both polynomials, so the places of one cannot be lent out meanwhile.
         for j in 0..self.degree + 1 {
             p.coeffs[j] = self.coefficient(field, p, q, j);
         }

@@ -20,9 +20,9 @@ steps_text [] = []
 steps_text (told ∷ later) = step_text told ++ steps_text later
 
 -- These steps are told from one place of the file to another, and after each the file has more to tell.
-abbrev pub Walk : FileLines → List Step → FileLines → Type 0
-Walk before [] after = before ≡ after
-Walk before (told ∷ later) after = (next : FileLines) × Stepped before told next × (goes_on told ≡ true) × Walk next later after
+abbrev pub ToldFrom : FileLines → List Step → FileLines → Type 0
+ToldFrom before [] after = before ≡ after
+ToldFrom before (told ∷ later) after = (next : FileLines) × Stepped before told next × (goes_on told ≡ true) × ToldFrom next later after
 
 -- The text of a file: the lines of all that is told of it from its start, up to the end or the fault that ends it.
 pub record FileText (file text : List ℕ) : Type 0 where
@@ -30,7 +30,7 @@ pub record FileText (file text : List ℕ) : Type 0 where
   pub fresh : Fresh file first
   pub steps : List Step
   pub before : FileLines
-  pub walk : Walk first steps before
+  pub told_before : ToldFrom first steps before
   pub last : Step
   pub after : FileLines
   pub step : Stepped before last after

@@ -1,5 +1,5 @@
 -- The text that answers a case. Assumes nothing.
-use Rattle.std.specs.Prelude.{◌≡◌, ◌⊎◌, ℕ, ◌+◌, List, [], ◌∷◌, ◌++◌, Ok, Err, Result, replicate, codes, decimal, flat_map}
+use Rattle.std.specs.Prelude.{◌≡◌, ◌⊎◌, ℕ, ◌+◌, List, [], ◌∷◌, ◌++◌, Ok, Err, Result, replicate, codes, decimal, flat_map, ◌≢◌, All}
 use Rattle.std.specs.List.{range_with_len}
 use Rattle.algebra.specs.Meaning.{Arithmetic, Meaning}
 use Rattle.algebra.specs.Limits.{coefficients}
@@ -21,9 +21,15 @@ use Rattle.vectors.specs.Fold.{folded}
 abbrev pub RefusedText : ℕ → List ℕ → Type 0
 RefusedText number text = (word : List ℕ) × (text ≡ codes "refused " ++ (decimal number ++ (codes " " ++ word)))
 
+-- the numbers of all refusals
+abbrev pub refusal_numbers : List ℕ
+refusal_numbers =
+    10 ∷ 11 ∷ 12 ∷ 13 ∷ 14 ∷ 15 ∷ 16 ∷ 17 ∷ 18 ∷ 21 ∷ 22 ∷ 23 ∷ 24 ∷ 25 ∷ 26 ∷ 28 ∷ 31 ∷ 32 ∷ 33 ∷ 34 ∷ 35 ∷ 36 ∷ 37 ∷ 38 ∷ []
+
 -- the refusal with this number, or that there is none
 abbrev pub RefusalShown : ℕ → List ℕ → Type 0
-RefusalShown number text = RefusedText number text ⊎ (text ≡ codes "no refusal has this number")
+RefusalShown number text =
+    RefusedText number text ⊎ (All (λ n. number ≢ n) refusal_numbers × (text ≡ codes "no refusal has this number"))
 
 abbrev pub taken_text : Arithmetic → List ℕ
 taken_text A = codes "taken, " ++ (decimal A.size ++ codes " elements")

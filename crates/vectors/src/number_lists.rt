@@ -10,6 +10,7 @@ pub fn read_numbers(heap: Global, text: &str) -> anyhow::Result<Vec<u32>>
     ensures { IfOk result (λ numbers. numbers.items ≡ numbers_in text.now) }
 {
     let mut numbers = Vec::new(heap);
+    // Of the words that `split_whitespace` gives, a proof knows only that they occur in the text.
     for word in text.split(' ') {
         if !word.is_empty() {
             numbers.push(word.parse::<u32>()?)?;

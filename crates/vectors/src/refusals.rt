@@ -15,7 +15,8 @@ use std::alloc::Global;
 use tags::NoteRefusal;
 use traywriter::WriteRefusal;
 
-// The refusal with this number, as one of the calls that give it names it, and its word.
+// The refusal with this number, and its word. A number that several types have is shown by one of them; each type has a `number` of its
+// own, so no list could hold them all.
 pub fn refusal(heap: Global, number: u32) -> anyhow::Result<String>
     ensures { IfOk result (λ text. RefusalShown number (string_bytes text)) }
 {

@@ -3,7 +3,7 @@ use Rattle.std.proofs.KnownBytes.{Appends-nil, Appends-trans}
 use Rattle.std.specs.Io.KnownBytes.{Appends}
 use Rattle.traylines.specs.FileText.{step_text, steps_text}
 use Rattle.traylines.proofs.Advances.{fewer_stepped}
-use Rattle.traylines.proofs.FileTexts.{walk_more, text_more}
+use Rattle.traylines.proofs.FileTexts.{told_more, text_more}
 use Rattle.traylines.proofs.report.write_lines.Goals as goal
 
 pub loop-step-init : goal.loop-step-init
@@ -19,7 +19,7 @@ loop-step-preserved g c =
       inv.0,
       inv.1 ++ told ∷ [],
       inv.2,
-      walk_more inv.0 inv.1 _ told _ inv.3 c.step-step.ensures (sym c.if-not-goes_on.ensures),
+      told_more inv.0 inv.1 _ told _ inv.3 c.step-step.ensures (sym c.if-not-goes_on.ensures),
       subst (Appends _ _) (sym (text_more inv.1 told)) (Appends-trans _ _ _ (steps_text inv.1) (step_text told) inv.4 c.in_ok-write_step.ensures),
     )
 
@@ -33,7 +33,7 @@ returns-then-not-goes_on g c =
         fresh = inv.2;
         steps = inv.1;
         before = c.loop-step.lines;
-        walk = inv.3;
+        told_before = inv.3;
         last = told;
         after = c.step-step.new.self;
         step = c.step-step.ensures;

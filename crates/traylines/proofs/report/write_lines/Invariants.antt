@@ -1,7 +1,7 @@
 use Rattle.std.proofs.Common.{◌-◌, List, length}
 use Rattle.std.specs.Io.KnownBytes.{Appends}
 use Rattle.traylines.specs.FileLines.{Fresh}
-use Rattle.traylines.specs.FileText.{Walk, steps_text}
+use Rattle.traylines.specs.FileText.{ToldFrom, steps_text}
 use Rattle.traylines.specs.declared.file_lines.FileLines.{FileLines}
 use Rattle.traylines.specs.declared.file_lines.Step.{Step}
 use Rattle.traylines.proofs.report.write_lines.Given as goal
@@ -9,7 +9,7 @@ use Rattle.traylines.proofs.report.write_lines.Given as goal
 -- the lines of what was told so far are written
 abbrev pub invariant-loop-step : goal.invariant-loop-step
 invariant-loop-step g l =
-    (first : FileLines) × (steps : List Step) × Fresh l.file first × Walk first steps l.lines
+    (first : FileLines) × (steps : List Step) × Fresh l.file first × ToldFrom first steps l.lines
     × Appends (g.W.Write.contents l.fn.out) (g.W.Write.contents l.out) (steps_text steps)
 
 -- the bytes that are left
