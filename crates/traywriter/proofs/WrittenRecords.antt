@@ -42,7 +42,7 @@ use Rattle.traywriter.specs.ReadingBack.{EntryComesBack, CardComesBack, UnderCar
 use Rattle.traywriter.proofs.Puts.{three_at_most}
 use Rattle.traywriter.proofs.WritableValues.{small_cells}
 
-numbers_short : (vs : List ℕ) → length (numbers vs) ≤ 3 * length vs
+pub numbers_short : (vs : List ℕ) → length (numbers vs) ≤ 3 * length vs
 numbers_short [] = omega arith
 numbers_short (v ∷ vs) = omega (arith, length-append (number_bytes v) (numbers vs), three_at_most v, numbers_short vs)
 

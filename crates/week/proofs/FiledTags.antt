@@ -1,29 +1,53 @@
 -- The records of an inked tag, one after the other. Assumes nothing.
-use Rattle.std.proofs.Common.{◌≡◌, ℕ, ◌+◌, ◌-◌, ◌≤◌, List, ◌++◌, length, take, Err, sym, ap, ◌∙◌, subst, ap₂, subst₂, arith}
-use Rattle.std.proofs.lemmas.List.{append_assoc, length-append, take_at}
+use Rattle.std.proofs.Common.{◌≡◌, ℕ, ◌+◌, ◌-◌, ◌≤◌, List, ◌++◌, length, map, take, Err, refl, sym, ap, ◌∙◌, subst, ap₂, subst₂, arith}
+use Rattle.std.proofs.lemmas.List.{append_assoc, length-append, length-map, take_at}
 use Rattle.fields.specs.Kinds.{prime_kind}
 use Rattle.codes.specs.Code.{Code}
 use Rattle.codes.specs.declared.cell.Cell.{Cell}
 use Rattle.house.specs.HouseRows.{inked, row_code}
 use Rattle.bodies.specs.CardBodies.{card_body}
+use Rattle.bodies.specs.CellBodies.{cell_number, cells_body}
+use Rattle.numbers.specs.Numbers.{number_bytes}
 use Rattle.trayfile.specs.Kinds.{kind_number}
-use Rattle.trayfile.specs.declared.kind.Kind.TheVariants.{Card}
+use Rattle.trayfile.specs.declared.kind.Kind.TheVariants.{Card, Cells}
 use Rattle.traywriter.specs.Writing.{Put, RecordWritten}
 use Rattle.traywriter.specs.Writers.{CellsWritten}
 use Rattle.traywriter.specs.declared.write_refusal.WriteRefusal.{WriteRefusal}
 use Rattle.traywriter.specs.declared.write_refusal.WriteRefusal.TheVariants.{NoLetter, WrongLength, BadNote, TooSmall}
+use Rattle.traywriter.proofs.Puts.{three_at_most}
+use Rattle.traywriter.proofs.WrittenRecords.{numbers_short}
 use Rattle.week.specs.Filed.{card_record, cells_record, FiledTag}
+
+card_long : length card_record ≡ 47
+unfolding card_record number_bytes
+card_long = refl
+
+-- a kind and a length in three bytes each at most, and so is each of the twenty numbers
+cells_long : (cells : List Cell) → length cells ≡ 20 → length (cells_record cells) ≤ 66
+unfolding cells_record
+cells_long cells twenty =
+    let body = cells_body cells in
+    omega (
+      arith,
+      twenty,
+      length-map cells cell_number,
+      numbers_short (map cell_number cells),
+      three_at_most (kind_number Cells),
+      three_at_most (length body),
+      length-append (number_bytes (kind_number Cells)) (number_bytes (length body) ++ body),
+      length-append (number_bytes (length body)) body,
+    )
 
 inked_refused : (cells : List Cell) (before after : List ℕ) (refusal : WriteRefusal) → length before ≡ 128 → RecordWritten (kind_number Card) (card_body prime_kind 37 (row_code inked)) before after (Err refusal) → FiledTag cells (Err refusal)
 unfolding card_record
-inked_refused cells before after TooSmall long r = let small = r.small in omega arith
+inked_refused cells before after TooSmall long r = let small = r.small in omega (arith, card_long)
 inked_refused cells before after NoLetter long r = absurd r
 inked_refused cells before after WrongLength long r = absurd r
 inked_refused cells before after BadNote long r = absurd r
 
 inked_cells_refused : (cells : List Cell) (before after : List ℕ) (refusal : WriteRefusal) → length before + length card_record ≡ 128 → length cells ≡ 20 → CellsWritten (row_code inked) cells before after (Err refusal) → FiledTag cells (Err refusal)
 unfolding cells_record
-inked_cells_refused cells before after TooSmall long twenty r = let small = r.2.small in omega arith
+inked_cells_refused cells before after TooSmall long twenty r = let small = r.2.small in omega (arith, card_long, cells_long cells twenty)
 inked_cells_refused cells before after NoLetter long twenty r = r.1
 inked_cells_refused cells before after WrongLength long twenty r = absurd (r.0 twenty)
 inked_cells_refused cells before after BadNote long twenty r = absurd r

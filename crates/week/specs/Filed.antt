@@ -1,5 +1,5 @@
 -- What goes into a tray file of an inked tag. Assumes nothing.
-use Rattle.std.specs.Prelude.{◌≡◌, ℕ, ◌+◌, ◌<◌, List, ◌++◌, length, Ok, Err, Result}
+use Rattle.std.specs.Prelude.{◌≡◌, ℕ, List, ◌++◌, Ok, Err, Result}
 use Rattle.fields.specs.Kinds.{prime_kind}
 use Rattle.codes.specs.Verdicts.{Lettered}
 use Rattle.codes.specs.declared.cell.Cell.{Cell}
@@ -22,14 +22,10 @@ card_record = record_bytes (kind_number Card) (card_body prime_kind inked.origin
 unfoldable pub cells_record : List Cell → List ℕ
 cells_record cells = record_bytes (kind_number Cells) (cells_body cells)
 
--- the longest file that is made
-abbrev pub file_room : ℕ
-file_room = 128
-
--- The file is the card's record and the cells'. It is refused where a cell holds no letter, or where both are longer than the room.
+-- The file is the card's record and the cells'. It is refused only where a cell holds no letter: both records always fit.
 abbrev pub FiledTag : List Cell → Result (ArrayVec ℕ) WriteRefusal → Type 0
 FiledTag cells (Ok file) = Lettered inked_letters cells × (file.items ≡ card_record ++ cells_record cells)
 FiledTag cells (Err NoLetter) = Lettered inked_letters cells → ⊥
-FiledTag cells (Err TooSmall) = file_room < length card_record + length (cells_record cells)
+FiledTag cells (Err TooSmall) = ⊥
 FiledTag cells (Err WrongLength) = ⊥
 FiledTag cells (Err BadNote) = ⊥
