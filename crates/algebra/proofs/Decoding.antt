@@ -23,16 +23,16 @@ use Rattle.algebra.specs.ErrorLocators.{
   OnlyNear,
 }
 use Rattle.algebra.proofs.Places.{member_if, member_not, member?}
-use Rattle.algebra.proofs.Ring.{AbstractField, ⊕_⊖, difference_zero}
-use Rattle.algebra.proofs.Polynomials
-use Rattle.algebra.proofs.Points
-use Rattle.algebra.proofs.Syndromes
+use Rattle.algebra.proofs.rings.Ring.{AbstractField, ⊕_⊖, difference_zero}
+use Rattle.algebra.proofs.rings.Polynomials
+use Rattle.algebra.proofs.rings.Points
+use Rattle.algebra.proofs.rings.Syndromes
 use Rattle.algebra.proofs.Lengths.{length_annihilator}
 use Rattle.algebra.proofs.Counts.{failures_two, members_few, length_failing, failing_only, failing_if, distinct_failing}
-use Rattle.algebra.proofs.ErrorLocators
-use Rattle.algebra.proofs.Carrier
-use Rattle.algebra.proofs.Carrier.{lawful}
-use Rattle.algebra.proofs.Elements
+use Rattle.algebra.proofs.rings.ErrorLocators
+use Rattle.algebra.proofs.elements.Carrier
+use Rattle.algebra.proofs.elements.Carrier.{lawful}
+use Rattle.algebra.proofs.elements.Elements
 use Rattle.algebra.proofs.Numbers
 
 pub few_roots : {m : Meaning} → Laws m → FewRoots m

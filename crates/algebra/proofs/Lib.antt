@@ -1,23 +1,15 @@
+mod rings
+mod elements
 pub mod OnElements
+pub mod Lengths
 pub mod RingFacts
 pub mod Inverses
 pub mod Modulus
-pub mod Ring
-pub mod Sums
-pub mod Polynomials
 pub mod Places
 pub mod Counts
-pub mod Lengths
-pub mod Points
-pub mod Interpolation
-pub mod Syndromes
-pub mod Filling
-pub mod ErrorLocators
-pub mod Convolutions
-pub mod MinimalPairs
-pub mod Carrier
-pub mod Elements
-pub mod Realisations
+pub mod Coefficients
+pub mod Terms
 pub mod Numbers
 pub mod Decoding
-pub mod Examples
+pub mod PairSteps
+mod Examples

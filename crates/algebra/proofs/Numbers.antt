@@ -8,6 +8,7 @@ use Rattle.algebra.specs.Laws.{Total, RingLaws, Laws}
 use Rattle.algebra.specs.Places.{Member, member, without}
 use Rattle.algebra.specs.Power.{times_power, power, sum}
 use Rattle.algebra.specs.Polynomial.{negate, evaluate, quotient_linear, act, divide}
+use Rattle.algebra.specs.Realisation.{applied}
 use Rattle.algebra.specs.Theorems
 use Rattle.algebra.proofs.Places.{
   member_only,
@@ -22,16 +23,20 @@ use Rattle.algebra.proofs.Places.{
   places_below,
   distinct_places,
 }
-use Rattle.algebra.proofs.Ring.{CommutativeRing, AbstractField, 𝟘_⊗, ⊕_⊖}
-use Rattle.algebra.proofs.Sums.{Σ_reorder}
-use Rattle.algebra.proofs.Polynomials
+use Rattle.algebra.proofs.rings.Ring.{CommutativeRing, AbstractField, 𝟘_⊗, ⊕_⊖}
+use Rattle.algebra.proofs.rings.Sums.{Σ_cong, Σ_reorder}
+use Rattle.algebra.proofs.rings.Polynomials
 use Rattle.algebra.proofs.Lengths.{times_power_element}
-use Rattle.algebra.proofs.Points
-use Rattle.algebra.proofs.Interpolation
-use Rattle.algebra.proofs.Syndromes
-use Rattle.algebra.proofs.Filling
-use Rattle.algebra.proofs.Carrier
-use Rattle.algebra.proofs.Elements
+use Rattle.algebra.proofs.RingFacts.{times_zero}
+use Rattle.algebra.proofs.rings.Points
+use Rattle.algebra.proofs.rings.Interpolation
+use Rattle.algebra.proofs.rings.Syndromes
+use Rattle.algebra.proofs.rings.Filling
+use Rattle.algebra.proofs.elements.Carrier
+use Rattle.algebra.proofs.elements.Elements
+use Rattle.algebra.proofs.Coefficients.{InField}
+use Rattle.algebra.proofs.rings.Convolutions.{conv}
+use Rattle.algebra.proofs.elements.Realisations.{lifted, value_lifted, coeff_lifted, applied_is}
 
 module _ (A : Arithmetic) (total : Total A) (laws : RingLaws A) where
   abbrev W : Carrier.Lawful A
@@ -57,7 +62,7 @@ module _ (A : Arithmetic) (total : Total A) (laws : RingLaws A) where
       by_cases (no out) zero = sym (laws.times_one x h)
       by_cases (no out) (suc k) =
           total.times_outside _ a (inr (omega arith)) ∙ sym
-          (ap (A.times x) (total.times_outside _ a (inr (omega arith))) ∙ Carrier.times_zero W x h)
+          (ap (A.times x) (total.times_outside _ a (inr (omega arith))) ∙ times_zero A total laws x h)
 
   pub reordering : Theorems.Reordering A
   reordering n f p q elements p-below q-below q-p p-q =
@@ -312,3 +317,15 @@ filling_only laws n r a h u v E L M elements D = filling_only_at laws n a E L D 
 
 pub filling_makes : {m : Meaning} → Laws m → Theorems.FillingMakes m
 filling_makes laws n a h u E L M elements D = filling_makes_at laws n a E L D h M u elements
+
+-- a list of at most m + 1 coefficients acts on the sequence as it is applied to it
+pub act_applied : {m : Meaning} → Laws m → (p s : List ℕ) → InField m.arithmetic p → InField m.arithmetic s → (d k : ℕ) → length p ≤ suc d →
+    act m.arithmetic p (λ i. get_or s i 0) k ≡ applied m.arithmetic p d s k
+unfolding conv
+act_applied {m} laws p s hp hs d k short =
+    ap (λ q. act m.arithmetic q (λ i. get_or s i 0) k) (Carrier.coefficients_up (S laws) p hp)
+    ∙ Carrier.act_up (S laws) (map (lift laws) p) _ (lifted (S laws) s) k (λ i _. sym (value_lifted (S laws) s hs (k + i)))
+    ∙ ap (λ x. x.0)
+    (Polynomials.act_sum (K laws).ring (suc d) (map (lift laws) p) (lifted (S laws) s) k (omega (arith, length-map p (lift laws)))
+    ∙ Σ_cong (K laws).ring (suc d) _ _ (λ j _. ap (λ z. (K laws).ring.◌⊗◌ z (lifted (S laws) s (k + j))) (coeff_lifted (S laws) p hp j)))
+    ∙ sym (applied_is (S laws) p s hp hs d k)

@@ -1,7 +1,10 @@
 -- What the laws of a ring give for its elements. Assumes nothing.
-use Rattle.std.proofs.Common.{◌≡◌, ℕ, ◌<◌, sym, ap, ◌∙◌, ap₂, arith}
+use Rattle.std.proofs.Common.{◌≡◌, ℕ, zero, suc, ◌<◌, sym, refl, ap, ◌∙◌, ap₂, arith}
 use Rattle.algebra.specs.Meaning.{Arithmetic}
 use Rattle.algebra.specs.Laws.{Total, RingLaws}
+use Rattle.algebra.specs.Power.{times_power}
+use Rattle.algebra.specs.Polynomial.{negate}
+use Rattle.algebra.proofs.Lengths.{times_power_element}
 
 module _ (A : Arithmetic) (total : Total A) (ring : RingLaws A) where
   pub zero_element : 0 < A.size
@@ -48,6 +51,27 @@ module _ (A : Arithmetic) (total : Total A) (ring : RingLaws A) where
       ring.times_comm (A.plus a b) c (total.plus_element a b) hc
       ∙ ring.times_plus c a b hc ha hb
       ∙ ap₂ A.plus (ring.times_comm c a hc ha) (ring.times_comm c b hc hb)
+
+  pub minus_self : (a : ℕ) → a < A.size → A.minus a a ≡ 0
+  minus_self a h = sym (minus_only a a 0 h h zero_element (zero_plus a h))
+
+  -- the element with the other sign: what it adds up to, as a factor, and its own
+  pub plus_negate : (a : ℕ) → a < A.size → A.plus a (negate A a) ≡ 0
+  plus_negate a h = ring.plus_comm a (negate A a) h (total.minus_element 0 a) ∙ ring.minus_plus 0 a zero_element h
+
+  pub negate_negate : (a : ℕ) → a < A.size → negate A (negate A a) ≡ a
+  negate_negate a h = sym (minus_only 0 (negate A a) a zero_element (total.minus_element 0 a) h (plus_negate a h))
+
+  negate_times : (a b : ℕ) → a < A.size → b < A.size → A.times (negate A a) b ≡ negate A (A.times a b)
+  negate_times a b ha hb =
+      let hn = total.minus_element 0 a in
+      minus_only 0 (A.times a b) (A.times (negate A a) b) zero_element (total.times_element a b) (total.times_element (negate A a) b)
+      (sym (plus_times (negate A a) a b hn ha hb) ∙ ap (λ x. A.times x b) (ring.minus_plus 0 a zero_element ha) ∙ zero_times b hb)
+
+  pub times_power_negate : (x a k : ℕ) → x < A.size → a < A.size → times_power A (negate A x) a k ≡ negate A (times_power A x a k)
+  times_power_negate x a zero hx ha = refl
+  times_power_negate x a (suc k) hx ha =
+      ap (λ z. A.times z a) (times_power_negate x a k hx ha) ∙ negate_times (times_power A x a k) a (times_power_element total x a k hx) ha
 
   -- an element has at most one inverse
   pub inverse_only : (a b c : ℕ) → a < A.size → b < A.size → c < A.size → A.times a b ≡ 1 → A.times a c ≡ 1 → c ≡ b

@@ -1,6 +1,6 @@
 -- What the filled letters are: every codeword that agrees with the noted cells has them, and with as many blanks as rows they
 -- make all sums 0. Assumes nothing.
-use Rattle.std.proofs.Common.{◌≡◌, ℕ, zero, suc, pred, ◌+◌, ◌<◌, ◌≤◌, Bool, true, false, cond, not, ◌⊎◌, List, [], ◌∷◌, map, length, get_or, is_some, Some, None, Option, unwrap_or, sym, refl, ap, ◌∙◌, subst, ap₂, inl, inr, le_refl, zero-add, arith}
+use Rattle.std.proofs.Common.{◌≡◌, ℕ, zero, suc, pred, ◌+◌, ◌<◌, ◌≤◌, Bool, true, false, cond, not, ◌⊎◌, List, map, length, get_or, is_some, Some, None, Option, unwrap_or, sym, refl, ap, ◌∙◌, subst, inl, inr, le_refl, zero-add, arith}
 use lib.ListN.{length-map}
 use Rattle.std.proofs.lemmas.Bool.{both_ways, cases_Bool, cond-true, cond-false}
 use Rattle.std.proofs.lemmas.List.FromFn.{fill_by_all, get_or-map-range_with_len, length-map-range_with_len}
@@ -8,12 +8,12 @@ use Rattle.algebra.specs.Meaning.{Arithmetic, Meaning}
 use Rattle.algebra.specs.Laws.{Laws}
 use Rattle.algebra.specs.Places.{Member, member}
 use Rattle.algebra.specs.Power.{times_power, sum}
-use Rattle.algebra.specs.Polynomial.{negate, evaluate, annihilator, act, divide}
+use Rattle.algebra.specs.Polynomial.{negate, evaluate, annihilator, divide}
 use Rattle.algebra.specs.Theorems.{Locators, Multipliers, DistinctPlaces, cofactor, erased_letter, noted_sum, word_sum}
 use Rattle.algebra.proofs.Places.{member_if, member_only, member_not}
 use Rattle.algebra.proofs.Counts.{failing_only, failing_if, distinct_failing}
 use Rattle.algebra.proofs.Lengths.{length_annihilator, length_quotient_linear, sum_element}
-use Rattle.algebra.proofs.Carrier.{sum_cong}
+use Rattle.algebra.proofs.Terms.{sum_cong, act_cong}
 use Rattle.algebra.proofs.Numbers.{filling_only, filling_makes}
 use Rattle.codes.specs.Code.{Code}
 use Rattle.codes.specs.Checked.{Checked}
@@ -26,14 +26,6 @@ use Rattle.codes.specs.declared.cell.Cell.{Cell}
 use Rattle.filling.proofs.Blanks.{length_blank_places}
 use Rattle.codes.proofs.Codewords.{get_or_syndromes}
 
--- actions on equal sequences
-pub act_same : (A : Arithmetic) (p : List ℕ) (s t : ℕ → ℕ) (k : ℕ) → ((i : ℕ) → k ≤ i → i < k + length p → s i ≡ t i) →
-    act A p s k ≡ act A p t k
-act_same A [] s t k e = refl
-act_same A (c ∷ p) s t k e =
-    ap₂ (λ x y. A.plus (A.times c x) y) (e k (le_refl k) (omega arith))
-    (act_same A p s t (suc k) (λ i h below. e i (omega arith) (omega arith)))
-
 -- the formula reads as many sums as places are erased
 letter_same : (m : Meaning) (a h : ℕ → ℕ) (E : List ℕ) (s t : ℕ → ℕ) (j : ℕ) → ((i : ℕ) → i < length E → s i ≡ t i) →
     erased_letter m a h E s j ≡ erased_letter m a h E t j
@@ -42,7 +34,7 @@ letter_same m a h E s t j e =
     let P = cofactor A a E j in
     let long : length P ≡ pred (suc (length E)) =
     length_quotient_linear A (a j) (annihilator A (map a E)) ∙ ap pred (length_annihilator A (map a E) ∙ ap suc (length-map E a)) in
-    ap (λ x. divide m (negate A x) (A.times (h j) (evaluate A P (a j)))) (act_same A P s t 0 (λ i h below. e i (omega arith)))
+    ap (λ x. divide m (negate A x) (A.times (h j) (evaluate A P (a j)))) (act_cong A P s t 0 (λ i h. e (0 + i) (omega arith)))
 
 -- a place is erased where the cell is blank
 module _ (cells : List Cell) (j : ℕ) (h : j < length cells) where

@@ -11,12 +11,12 @@ use Rattle.algebra.specs.Polynomial.{annihilator, act}
 use Rattle.algebra.specs.Theorems.{noted_sum, DistinctPlaces}
 use Rattle.algebra.specs.ErrorLocators.{agrees, errors, modified_sum, FitsModified}
 use Rattle.algebra.specs.Realisation.{Degree, Fits, Minimal}
-use Rattle.algebra.proofs.Carrier.{lawful}
 use Rattle.algebra.proofs.Counts.{failing_only, distinct_failing, length_failing, failures_two}
 use Rattle.algebra.proofs.Lengths.{length_annihilator, annihilator_elements, act_element}
-use Rattle.algebra.proofs.Numbers.{annihilator_monic}
+use Rattle.algebra.proofs.Numbers.{annihilator_monic, act_applied}
 use Rattle.algebra.proofs.Decoding.{error_locator, error_roots, few_roots}
-use Rattle.algebra.proofs.Realisations.{InField, in_field, act_applied, applied_take}
+use Rattle.algebra.proofs.Coefficients.{InField, in_field}
+use Rattle.algebra.proofs.Terms.{act_cong, applied_take}
 use Rattle.codes.specs.Code.{Code}
 use Rattle.codes.specs.Checked.{Checked}
 use Rattle.codes.specs.Cells.{blank_cell, blanks}
@@ -25,7 +25,7 @@ use Rattle.codes.specs.Sums.{syndromes}
 use Rattle.codes.specs.Verdicts.{Lettered}
 use Rattle.codes.specs.declared.cell.Cell.{Cell}
 use Rattle.filling.proofs.Blanks.{length_blank_places, blanks_are}
-use Rattle.filling.proofs.FilledWords.{act_same, noted_sum_is, fills_only}
+use Rattle.filling.proofs.FilledWords.{noted_sum_is, fills_only}
 use Rattle.reading.specs.Reading.{wrong, Near}
 use Rattle.reading.specs.Erasing.{root, erased_cell, erased}
 use Rattle.reading.proofs.NearWords.{letter_or_zero, errors_are, received}
@@ -82,23 +82,23 @@ module _ (m : Meaning) (code : Code) (checked : Checked m code) (cells : List Ce
     T_modified : (k : ℕ) → k < length T → get_or T k 0 ≡ modified_sum A n a h E u k
     T_modified k below =
         T-is k below
-        ∙ act_same A (annihilator A (map a E)) _ _ k
-        (λ i from to. sym (noted_sum_is checked cells long i (omega (arith, length_annihilator A (map a E), length-map E a, length_blank_places cells))))
+        ∙ act_cong A (annihilator A (map a E)) _ _ k
+        (λ i h. sym (noted_sum_is checked cells long (k + i) (omega (arith, length_annihilator A (map a E), length-map E a, length_blank_places cells))))
 
     pub T_elements : InField A T
-    T_elements = in_field (lawful checked.laws) T (λ i below. subst (λ (x : ℕ). x < A.size) (sym (T-is i below)) (act_element checked.laws.total (annihilator A (map a E)) _ i))
+    T_elements = in_field checked.laws.total T (λ i below. subst (λ (x : ℕ). x < A.size) (sym (T-is i below)) (act_element checked.laws.total (annihilator A (map a E)) _ i))
 
     fits_from : (p : List ℕ) (e : ℕ) → length p ≡ suc e → InField A p → FitsModified A n code.rows a h u E p → Fits A T p e
     fits_from p e size elements modified k within =
-        sym (act_applied (lawful checked.laws) p T elements T_elements e k (omega arith))
-        ∙ act_same A p (number_at T) (modified_sum A n a h E u) k (λ i from to. T_modified i (omega arith))
+        sym (act_applied checked.laws p T elements T_elements e k (omega arith))
+        ∙ act_cong A p (number_at T) (modified_sum A n a h E u) k (λ i h. T_modified (k + i) (omega arith))
         ∙ modified k (omega (arith, length_blank_places cells))
 
     fits_to : (p : List ℕ) (e : ℕ) → length p ≡ suc e → InField A p → Fits A T p e → FitsModified A n code.rows a h u E p
     fits_to p e size elements fits k within =
         let below : k + e < length T = omega (arith, length_blank_places cells) in
-        sym (act_same A p (number_at T) (modified_sum A n a h E u) k (λ i from to. T_modified i (omega arith)))
-        ∙ act_applied (lawful checked.laws) p T elements T_elements e k (omega arith)
+        sym (act_cong A p (number_at T) (modified_sum A n a h E u) k (λ i h. T_modified (k + i) (omega arith)))
+        ∙ act_applied checked.laws p T elements T_elements e k (omega arith)
         ∙ fits k below
 
     module _ (d : ℕ) (f w : List ℕ) (minimal : Minimal A T d f w) where
@@ -115,7 +115,7 @@ module _ (m : Meaning) (code : Code) (checked : Checked m code) (cells : List Ce
       p_elements k = ⊎_elim (λ lt. subst (λ (x : ℕ). x < A.size) (sym (get_or-take (suc d) f k 0 lt)) (minimal.degree.elements k)) (λ past. let zero = get_or_past p k 0 (omega (arith, p_long)) in let some = checked.laws.total.smallest in omega arith) (cases_lt k (suc d))
 
       p_fits : Fits A T p d
-      p_fits k below = applied_take (lawful checked.laws) f T d k ∙ minimal.fits k below
+      p_fits k below = applied_take A f T d k ∙ minimal.fits k below
 
       -- few cells are erased
       pub roots_few : failures n (λ j. not (root A p (get_or code.locators j 0))) ≤ d

@@ -8,12 +8,12 @@ use Rattle.algebra.specs.Power.{times_power}
 use Rattle.algebra.specs.Polynomial.{evaluate, annihilator, divide}
 use Rattle.algebra.specs.Theorems
 use Rattle.algebra.proofs.Places.{member_only, member_if}
-use Rattle.algebra.proofs.Ring.{zero?}
-use Rattle.algebra.proofs.Polynomials
-use Rattle.algebra.proofs.Syndromes
-use Rattle.algebra.proofs.Points
-use Rattle.algebra.proofs.Carrier.{Element, element_path, Lawful, lawful, ring, lift, value_lift, field}
-use Rattle.algebra.proofs.Carrier
+use Rattle.algebra.proofs.rings.Ring.{zero?}
+use Rattle.algebra.proofs.rings.Polynomials
+use Rattle.algebra.proofs.rings.Syndromes
+use Rattle.algebra.proofs.rings.Points
+use Rattle.algebra.proofs.elements.Carrier.{Element, element_path, Lawful, lawful, ring, lift, value_lift, field}
+use Rattle.algebra.proofs.elements.Carrier
 
 module _ {A : Arithmetic} (W : Lawful A) where
   open ring W use {𝟘, ◌⊗◌}

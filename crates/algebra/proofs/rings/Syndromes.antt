@@ -2,9 +2,9 @@
 -- errors. Assumes nothing.
 use Rattle.std.proofs.Common.{ℕ, cond, List, map}
 use Rattle.algebra.specs.Places.{member}
-use Rattle.algebra.proofs.Ring.{CommutativeRing}
-use Rattle.algebra.proofs.Sums.{Σ}
-use Rattle.algebra.proofs.Polynomials.{pow, act, annihilator}
+use Rattle.algebra.proofs.rings.Ring.{CommutativeRing}
+use Rattle.algebra.proofs.rings.Sums.{Σ}
+use Rattle.algebra.proofs.rings.Polynomials.{pow, act, annihilator}
 
 module _ {A : Type 0} (R : CommutativeRing A) where
   open R use {𝟘, ◌⊕◌, ◌⊗◌, ⊖◌}

@@ -3,7 +3,7 @@
 use Rattle.std.proofs.Common.{◌≡◌, ℕ, ◌+◌, ◌<◌, ◌≤◌, Bool, true, false, cond, List, [], ◌∷◌, map, length, sym, refl, ap, ◌∙◌, ap₂, inl, inr, arith}
 use Rattle.algebra.specs.Places.{Member, Distinct, member, without}
 use Rattle.algebra.proofs.Places.{member_only, member_map, member_moved, without_here, without_there, without_absent}
-use Rattle.algebra.proofs.Ring.{
+use Rattle.algebra.proofs.rings.Ring.{
   CommutativeRing,
   AbstractField,
   ⊕_𝟘,
@@ -24,11 +24,11 @@ use Rattle.algebra.proofs.Ring.{
   times_sort,
   ring_zeros,
 }
-use Rattle.algebra.proofs.Sums.{Σ, Σ_cong, Σ_⊕, Σ_⊖}
-use Rattle.algebra.proofs.Polynomials
-use Rattle.algebra.proofs.Syndromes.{syndrome, noted}
-use Rattle.algebra.proofs.Points.{Injective, wt, wt_⊗, kernel}
-use Rattle.algebra.proofs.Interpolation.{
+use Rattle.algebra.proofs.rings.Sums.{Σ, Σ_cong, Σ_⊕, Σ_⊖}
+use Rattle.algebra.proofs.rings.Polynomials
+use Rattle.algebra.proofs.rings.Syndromes.{syndrome, noted}
+use Rattle.algebra.proofs.rings.Points.{Injective, wt, wt_⊗, kernel}
+use Rattle.algebra.proofs.rings.Interpolation.{
   Points,
   inside,
   cofactor,

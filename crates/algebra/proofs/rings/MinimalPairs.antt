@@ -1,11 +1,11 @@
 -- Minimal pairs over an abstract field: what a step of the algorithm does to a pair, and why nothing of lower degree
 -- fits. Polynomials are functions that give each power its coefficient. Assumes nothing.
-use Rattle.std.proofs.Common.{◌≡◌, ℕ, zero, suc, ◌+◌, ◌-◌, ◌<◌, ◌≤◌, sym, ap, ◌∙◌, ap₂, ⊎_elim, arith}
+use Rattle.std.proofs.Common.{◌≡◌, ℕ, suc, ◌+◌, ◌-◌, ◌<◌, ◌≤◌, sym, ap, ◌∙◌, ap₂, ⊎_elim, arith}
 use mathlib.Core.Path.{fun_ext}
 use Rattle.std.proofs.lemmas.Bool.{cases_lt}
-use Rattle.algebra.proofs.Ring.{CommutativeRing, AbstractField, ⊕_𝟘, 𝟘_⊕, ⊗_𝟘, 𝟘_⊗, ⊖_𝟘, ⊖_⊖, ⊕_⊖, ⊗_comm, ⊖_nonzero, ⊗_nonzero, difference_zero, ring_zeros, ring_laws}
-use Rattle.algebra.proofs.Sums.{Σ, Σ_zero, Σ_one, Σ_𝟘, Σ_cong, Σ_split}
-use Rattle.algebra.proofs.Convolutions.{Σ_bound, shift, shift_below, shift_at, shift_above, conv, conv_bound, conv_shift, difference, conv_difference, conv_conv, mirror, mirror_at, mirror_past, mirror_shift, mirror_difference}
+use Rattle.algebra.proofs.rings.Ring.{CommutativeRing, AbstractField, ⊕_𝟘, 𝟘_⊕, ⊗_𝟘, 𝟘_⊗, ⊖_𝟘, ⊕_⊖, ⊗_comm, ⊖_nonzero, ⊗_nonzero, difference_zero, ring_zeros, ring_laws}
+use Rattle.algebra.proofs.rings.Sums.{Σ, Σ_one, Σ_𝟘, Σ_cong, Σ_split}
+use Rattle.algebra.proofs.rings.Convolutions.{Σ_bound, shift, shift_below, shift_at, shift_above, conv, conv_bound, conv_shift, difference, conv_difference, conv_conv, mirror, mirror_at, mirror_past, mirror_shift, mirror_difference}
 
 module _ {A : Type 0} (R : CommutativeRing A) where
   open R use {𝟘}
@@ -93,23 +93,6 @@ module _ {A : Type 0} (R : CommutativeRing A) (s : ℕ → A) (N : ℕ) where
   zero_difference : (x a y b : A) → a ≡ 𝟘 → b ≡ 𝟘 → x ⊗ a ⊕ ⊖ (y ⊗ b) ≡ 𝟘
   zero_difference x a y b p q = ap₂ (λ a b. x ⊗ a ⊕ ⊖ (y ⊗ b)) p q ∙ simp ring_zeros
 
-  -- a discrepancy of 0: the pair fits one term more
-  pub passes : (i m : ℕ) (f w : ℕ → A) → Fitting i m f w → Discrepancy i m f w 𝟘 → Fitting (suc i) m f w
-  passes i m f w p z = record {
-    bounded = p.bounded;
-    leads = p.leads;
-    vanishes = λ n h. ⊎_elim (p.vanishes n) (λ k. z n (omega arith)) (cases_lt (n + m) (N + i));
-  }
-
-  -- where the degree grows, by d, the pair is kept
-  pub keeps : (i m d : ℕ) (f w : ℕ → A) (D : A) → Fitting i m f w → Discrepancy i m f w D → (D ≡ 𝟘 → ⊥) → d + (m + m) ≡ suc i → Kept (m + d) m f w D
-  keeps i m d f w D p z nonzero e = record {
-    bounded = p.bounded;
-    nonzero = nonzero;
-    vanishes = λ n h. p.vanishes n (omega arith);
-    remains = λ n h. z n (omega arith);
-  }
-
   -- x × the pair p, u less y × X^d × the pair q, v: what both steps of the algorithm share
   made :
       (x y : A) (d i m a b : ℕ) (p u q v f w : ℕ → A) → Bounded R a p u → Bounded R b q v → a ≤ m → b + d ≤ m → m < N →
@@ -126,12 +109,6 @@ module _ {A : Type 0} (R : CommutativeRing A) (s : ℕ → A) (N : ℕ) where
         ∙ residual_difference x y d p u q v n (λ j l. qv.f_above j (omega arith))
         ∙ cancels n r;
   }
-
-  -- before the first term no term counts
-  before_start : (f w : ℕ → A) (n k : ℕ) → 0 < N → n + suc k ≡ N → Bounded R 0 f w → residual f w n ≡ ⊖ w k
-  before_start f w n k positive place bounded =
-      let none : 0 - k ≡ 0 = omega arith in
-      residual_before f w 0 n k positive place bounded.f_above ∙ ap (λ M. Σ R M (λ t. f (k + 1 + t) ⊗ s t) ⊕ ⊖ w k) none ∙ ap (λ z. z ⊕ ⊖ w k) (Σ_zero R _) ∙ 𝟘_⊕ R _
 
   -- read back: f fits, in the sense of the sequence alone,
   pub fits : (i m : ℕ) (f w : ℕ → A) → m < N → Fitting i m f w → (k : ℕ) → k + m < i → conv R (suc m) f s k ≡ 𝟘
@@ -188,27 +165,6 @@ module _ {A : Type 0} (K : AbstractField A) (s : ℕ → A) (N : ℕ) where
         (λ below. zero_difference K.ring s N D _ D' _ (kept.vanishes n below) (fitting.vanishes (n + d) (omega arith)))
         (λ last. crossed D D' _ _ (kept.remains n (omega arith)) (discrepancy (n + d) (omega arith)))
         (cases_lt (suc n) (N + m)))
-
-  -- before the first term: the pair 1, 0
-  pub starts_fitting : (f w : ℕ → A) → 0 < N → f 0 ≡ 𝟙 → w 0 ≡ 𝟘 → Bounded K.ring 0 f w → Fitting K.ring s N 0 0 f w
-  starts_fitting f w positive one none bounded = record {
-    bounded = bounded;
-    leads = λ e. K.one_not_zero (sym one ∙ e);
-    vanishes = λ n h. before_start K.ring s N f w n (N - suc n) positive (omega arith) bounded ∙ ap (λ z. ⊖ z) (zeros (N - suc n)) ∙ ⊖_𝟘 K.ring;
-  }
-    where
-      zeros : (k : ℕ) → w k ≡ 𝟘
-      zeros zero = none
-      zeros (suc k) = bounded.w_above (suc k) (omega arith)
-
-  -- and the kept pair 0, −1 with the discrepancy 1
-  pub starts_kept : (f w : ℕ → A) → 0 < N → w 0 ≡ ⊖ 𝟙 → Bounded K.ring 0 f w → Kept K.ring s N 0 0 f w 𝟙
-  starts_kept f w positive minus_one bounded = record {
-    bounded = bounded;
-    nonzero = K.one_not_zero;
-    vanishes = λ n h. before_start K.ring s N f w n (N - suc n) positive (omega arith) bounded ∙ ap (λ z. ⊖ z) (bounded.w_above (N - suc n) (omega arith)) ∙ ⊖_𝟘 K.ring;
-    remains = λ n h. before_start K.ring s N f w n 0 positive (omega arith) bounded ∙ ap (λ z. ⊖ z) minus_one ∙ ⊖_⊖ K.ring 𝟙;
-  }
 
   -- Nothing of a degree e below m fits: g_e D is the sum of all g_a f'_b s_(k+a+b) for k = m − 1 − e, where for each b
   -- the sum over a is 0, since g fits.

@@ -2,8 +2,8 @@
 -- power its coefficient. Assumes nothing.
 use Rattle.std.proofs.Common.{◌≡◌, ℕ, zero, suc, ◌+◌, ◌-◌, ◌<◌, ◌≤◌, sym, refl, ap, ◌∙◌, ap₂, ⊎_elim, add-zero, add-suc, suc-add, arith}
 use Rattle.std.proofs.lemmas.Bool.{cases_lt}
-use Rattle.algebra.proofs.Ring.{CommutativeRing, ⊕_𝟘, 𝟘_⊕, 𝟘_⊗, ⊕_⊗, ⊗_assoc, ⊗_left_comm, ⊖_⊗, ring_zeros}
-use Rattle.algebra.proofs.Sums.{Σ, Σ_zero, Σ_first, Σ_cong, Σ_⊗, Σ_⊕, Σ_⊖, Σ_𝟘, Σ_swap, Σ_split}
+use Rattle.algebra.proofs.rings.Ring.{CommutativeRing, ⊕_𝟘, 𝟘_⊕, 𝟘_⊗, ⊕_⊗, ⊗_assoc, ⊗_left_comm, ⊖_⊗, ring_zeros}
+use Rattle.algebra.proofs.rings.Sums.{Σ, Σ_zero, Σ_first, Σ_cong, Σ_⊗, Σ_⊕, Σ_⊖, Σ_𝟘, Σ_swap, Σ_split}
 
 module _ {A : Type 0} (R : CommutativeRing A) where
   open R use {𝟘, 𝟙, ◌⊕◌, ◌⊗◌, ⊖◌}

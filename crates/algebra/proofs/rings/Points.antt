@@ -6,7 +6,7 @@ use lib.ListN.{length-map}
 use Rattle.std.proofs.lemmas.Bool.{cases_lt}
 use Rattle.algebra.specs.Places.{Member, Distinct}
 use Rattle.algebra.proofs.Places.{member_moved, member_of_map, distinct_map}
-use Rattle.algebra.proofs.Ring.{
+use Rattle.algebra.proofs.rings.Ring.{
   CommutativeRing,
   AbstractField,
   zero?,
@@ -21,8 +21,8 @@ use Rattle.algebra.proofs.Ring.{
   ring_zeros,
   ring_laws,
 }
-use Rattle.algebra.proofs.Sums.{Σ, Σ_suc, Σ_cong, Σ_⊗, Σ_⊕, Σ_𝟘}
-use Rattle.algebra.proofs.Polynomials
+use Rattle.algebra.proofs.rings.Sums.{Σ, Σ_suc, Σ_cong, Σ_⊗, Σ_⊕, Σ_𝟘}
+use Rattle.algebra.proofs.rings.Polynomials
 
 module _ {A : Type 0} (K : AbstractField A) where
   open K.ring use {𝟘, 𝟙, ◌⊕◌, ◌⊗◌, ⊖◌}

@@ -2,7 +2,7 @@
 -- the product with X − a, synthetic division by X − a, annihilators, and the action on sequences. Assumes nothing.
 use Rattle.std.proofs.Common.{◌≡◌, ℕ, zero, suc, pred, ◌+◌, ◌<◌, ◌≤◌, List, [], ◌∷◌, length, get_or, sym, refl, ap, ◌∙◌, ap₂, inl, inr, add-zero, add-suc, suc-add, arith}
 use Rattle.algebra.specs.Places.{Member}
-use Rattle.algebra.proofs.Ring.{
+use Rattle.algebra.proofs.rings.Ring.{
   CommutativeRing,
   ⊕_assoc,
   ⊕_𝟘,
@@ -24,7 +24,7 @@ use Rattle.algebra.proofs.Ring.{
   ring_zeros,
   ring_laws,
 }
-use Rattle.algebra.proofs.Sums.{Σ, Σ_zero, Σ_suc, Σ_first, Σ_cong, Σ_⊗, Σ_𝟘}
+use Rattle.algebra.proofs.rings.Sums.{Σ, Σ_zero, Σ_suc, Σ_first, Σ_cong, Σ_⊗, Σ_𝟘}
 
 module _ {A : Type 0} (R : CommutativeRing A) where
   open R use {𝟘, 𝟙, ◌⊕◌, ◌⊗◌, ⊖◌}

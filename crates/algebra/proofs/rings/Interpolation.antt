@@ -6,10 +6,10 @@ use lib.ListN.{length-map}
 use Rattle.std.proofs.lemmas.Bool.{cond-true, cond-false}
 use Rattle.algebra.specs.Places.{Member, Distinct, member}
 use Rattle.algebra.proofs.Places.{member_if, member_not, member?, member_map, member_of_map, distinct_map}
-use Rattle.algebra.proofs.Ring.{CommutativeRing, AbstractField, 𝟘_⊗, ⊗_𝟘, ⊗_𝟙, ⊗_assoc, ⊕_⊗, ⊖_⊗, ⊕_⊖, inv_⊗, difference_zero, times_sort}
-use Rattle.algebra.proofs.Sums.{Σ, Σ_cong, Σ_⊗, Σ_⊗_right, Σ_⊕, Σ_⊖, Σ_one, Σ_swap, Σ_delta, keep}
-use Rattle.algebra.proofs.Polynomials
-use Rattle.algebra.proofs.Points.{root_count, quo_root, annihilator_simple}
+use Rattle.algebra.proofs.rings.Ring.{CommutativeRing, AbstractField, 𝟘_⊗, ⊗_𝟘, ⊗_𝟙, ⊗_assoc, ⊕_⊗, ⊖_⊗, ⊕_⊖, inv_⊗, difference_zero, times_sort}
+use Rattle.algebra.proofs.rings.Sums.{Σ, Σ_cong, Σ_⊗, Σ_⊗_right, Σ_⊕, Σ_⊖, Σ_one, Σ_swap, Σ_delta, keep}
+use Rattle.algebra.proofs.rings.Polynomials
+use Rattle.algebra.proofs.rings.Points.{root_count, quo_root, annihilator_simple}
 
 module _ {A : Type 0} (R : CommutativeRing A) where
   open R use {𝟘, ◌⊕◌, ◌⊗◌}

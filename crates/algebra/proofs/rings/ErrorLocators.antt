@@ -6,7 +6,7 @@ use lib.ListN.{length-map}
 use Rattle.algebra.specs.Places.{Member, member}
 use Rattle.algebra.proofs.Places.{member_not, member_if, member?, member_map, member_of_map, member_moved}
 use Rattle.std.proofs.lemmas.Bool.{cond-true, cond-false}
-use Rattle.algebra.proofs.Ring.{
+use Rattle.algebra.proofs.rings.Ring.{
   CommutativeRing,
   AbstractField,
   zero?,
@@ -21,10 +21,10 @@ use Rattle.algebra.proofs.Ring.{
   zero_factor,
   times_sort,
 }
-use Rattle.algebra.proofs.Sums.{Σ_cong, Σ_⊕, Σ_⊖, Σ_𝟘}
-use Rattle.algebra.proofs.Polynomials
-use Rattle.algebra.proofs.Points
-use Rattle.algebra.proofs.Syndromes.{syndrome, noted, modified, error}
+use Rattle.algebra.proofs.rings.Sums.{Σ_cong, Σ_⊕, Σ_⊖, Σ_𝟘}
+use Rattle.algebra.proofs.rings.Polynomials
+use Rattle.algebra.proofs.rings.Points
+use Rattle.algebra.proofs.rings.Syndromes.{syndrome, noted, modified, error}
 
 -- applied to power sums, a polynomial multiplies each weight by its value at the point
 module _ {A : Type 0} (K : AbstractField A) where

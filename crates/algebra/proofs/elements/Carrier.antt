@@ -1,6 +1,6 @@
 -- The elements of a lawful meaning as a ring and as a field with laws that hold for all elements, and each definition
 -- on numbers as the abstract one read back. Assumes nothing.
-use Rattle.std.proofs.Common.{◌≡◌, ℕ, zero, suc, ◌+◌, ◌<◌, List, [], ◌∷◌, map, length, get_or, None, sym, refl, ap, ◌∙◌, ap₂, inl, inr, add-zero, add-suc, suc-add, arith}
+use Rattle.std.proofs.Common.{◌≡◌, ℕ, zero, suc, ◌+◌, ◌<◌, List, [], ◌∷◌, map, length, get_or, None, sym, refl, ap, ◌∙◌, ap₂, inl, inr, arith}
 use mathlib.Core.HLevel.{Σ_prop_path, Σ_prop_discrete}
 use native.Mathlib.Bridge.{le_prop}
 use native.Mathlib.Decide.{ℕ_discrete, dec_lt}
@@ -11,22 +11,12 @@ use Rattle.algebra.specs.Places.{Member}
 use Rattle.algebra.specs.Power.{times_power, power, sum}
 use Rattle.algebra.specs.Polynomial.{negate, evaluate, plus_linear, annihilator, quotient_linear, act, or_zero}
 use Rattle.algebra.specs.Theorems.{cofactor}
-use Rattle.algebra.proofs.Ring.{CommutativeRing, AbstractField, ⊗_𝟘, ⊗_𝟙, 𝟙_⊗, ⊗_assoc, ⊕_assoc, ⊕_⊖, ⊕_𝟘}
-use Rattle.algebra.proofs.Sums.{Σ}
-use Rattle.algebra.proofs.Polynomials
-use Rattle.algebra.proofs.Interpolation
-
--- sums and actions see only the terms that count
-pub sum_cong : (A : Arithmetic) (n : ℕ) (f g : ℕ → ℕ) → ((i : ℕ) → i < n → f i ≡ g i) → sum A n f ≡ sum A n g
-sum_cong A zero f g e = refl
-sum_cong A (suc n) f g e = ap₂ A.plus (sum_cong A n f g (λ i h. e i (omega arith))) (e n (omega arith))
-
-pub act_cong : (A : Arithmetic) (p : List ℕ) (s t : ℕ → ℕ) (k : ℕ) → ((i : ℕ) → i < length p → s (k + i) ≡ t (k + i)) →
-    act A p s k ≡ act A p t k
-act_cong A [] s t k e = refl
-act_cong A (c ∷ p) s t k e =
-    ap₂ (λ x y. A.plus (A.times c x) y) (simp add-zero at (e 0 (omega arith)))
-    (act_cong A p s t (suc k) (λ i h. simp suc-add (simp add-suc at (e (suc i) (omega arith)))))
+use Rattle.algebra.proofs.Terms.{sum_cong, act_cong}
+use Rattle.algebra.proofs.RingFacts.{plus_negate}
+use Rattle.algebra.proofs.rings.Ring.{CommutativeRing, AbstractField, ⊗_𝟙, 𝟙_⊗, ⊗_assoc, ⊕_assoc, ⊕_⊖, ⊕_𝟘}
+use Rattle.algebra.proofs.rings.Sums.{Σ}
+use Rattle.algebra.proofs.rings.Polynomials
+use Rattle.algebra.proofs.rings.Interpolation
 
 -- a number below the size
 abbrev pub Element : Arithmetic → Type 0
@@ -44,10 +34,6 @@ abbrev pub lawful : {m : Meaning} → Laws m → Lawful m.arithmetic
 lawful laws = record { total = laws.total; ring = laws.ring }
 
 module _ {A : Arithmetic} (W : Lawful A) where
-  pub plus_negate : (x : ℕ) → x < A.size → A.plus x (negate A x) ≡ 0
-  plus_negate x h = W.ring.plus_comm x (negate A x) h (W.total.minus_element 0 x)
-      ∙ W.ring.minus_plus 0 x (omega (arith, W.total.smallest)) h
-
   unfoldable pub ring : CommutativeRing (Element A)
   ring = record {
     𝟘 = (0, omega (arith, W.total.smallest));
@@ -58,7 +44,7 @@ module _ {A : Arithmetic} (W : Lawful A) where
     plus_assoc = λ x y z. element_path A (W.ring.plus_assoc x.0 y.0 z.0 x.1 y.1 z.1);
     plus_comm = λ x y. element_path A (W.ring.plus_comm x.0 y.0 x.1 y.1);
     plus_zero = λ x. element_path A (W.ring.plus_zero x.0 x.1);
-    plus_minus = λ x. element_path A (plus_negate x.0 x.1);
+    plus_minus = λ x. element_path A (plus_negate A W.total W.ring x.0 x.1);
     times_assoc = λ x y z. element_path A (W.ring.times_assoc x.0 y.0 z.0 x.1 y.1 z.1);
     times_comm = λ x y. element_path A (W.ring.times_comm x.0 y.0 x.1 y.1);
     times_one = λ x. element_path A (W.ring.times_one x.0 x.1);
@@ -105,10 +91,6 @@ module _ {A : Arithmetic} (W : Lawful A) where
   pub times_is : (x y : Element A) → A.times x.0 y.0 ≡ (x ⊗ y).0
   unfolding ring
   times_is x y = refl
-
-  pub times_zero : (x : ℕ) → x < A.size → A.times x 0 ≡ 0
-  unfolding ring
-  times_zero x h = ap (λ z. z.0) (⊗_𝟘 ring (x, h))
 
   pub negate_is : (x : Element A) → negate A x.0 ≡ (⊖ x).0
   unfolding ring
