@@ -1,12 +1,12 @@
 -- The theorems about errors and erasures (specs/ErrorLocators.antt), carried from the field of elements. Assumes nothing.
-use Rattle.std.proofs.Common.{◌≡◌, ℕ, suc, ◌+◌, ◌*◌, ◌<◌, ◌≤◌, Bool, true, false, cond, not, ◌&&◌, eqb, List, map, length, get_or, sym, refl, ap, ◌∙◌, inl, inr, arith}
+use Rattle.std.proofs.Common.{◌≡◌, ℕ, suc, ◌+◌, ◌*◌, ◌<◌, ◌≤◌, Bool, true, false, cond, not, ◌&&◌, eqb, List, map, length, sym, refl, ap, ◌∙◌, inl, inr, arith}
 use native.Mathlib.Decide.{ℕ_discrete}
 use lib.ListN.{length-map}
 use Rattle.std.proofs.lemmas.Bool.{eqb-true, eq-eqb, ne_eqb, and_from, and_parts, not-true, cond-true, cond-false}
 use Rattle.algebra.specs.Meaning.{Meaning}
 use Rattle.algebra.specs.Laws.{Laws}
 use Rattle.algebra.specs.Places.{Member, member, failing}
-use Rattle.algebra.specs.Polynomial.{evaluate, annihilator, act}
+use Rattle.algebra.specs.Polynomial.{AllElements, evaluate, annihilator, act}
 use Rattle.algebra.specs.Theorems
 use Rattle.algebra.specs.Places
 use Rattle.algebra.specs.ErrorLocators.{
@@ -131,7 +131,7 @@ module _ {m : Meaning} (laws : Laws m) (n r : ℕ) (a h u c : ℕ → ℕ) (E : 
       (omega (arith, length_annihilator m.arithmetic (map a F), length-map F a)))
 
   error_roots_at :
-      (f : List ℕ) → 2 * errors n E u c + length E ≤ r → ((k : ℕ) → get_or f k 0 < m.arithmetic.size) → length f ≤ suc (errors n E u c) →
+      (f : List ℕ) → 2 * errors n E u c + length E ≤ r → AllElements m.arithmetic f → length f ≤ suc (errors n E u c) →
       FitsModified m.arithmetic n r a h u E f → (j : ℕ) → j < n → (Member j E → ⊥) → (u j ≡ c j → ⊥) → evaluate m.arithmetic f (a j) ≡ 0
   error_roots_at f near elements short fits j hj out differ =
       Elements.evaluation W f elements (a j) (G.locators.element j hj)

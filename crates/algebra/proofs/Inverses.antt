@@ -2,7 +2,7 @@
 use Rattle.std.proofs.Common.{◌≡◌, ℕ, zero, suc, ◌<◌, Bool, true, false, cond, eqb, ◌⊎◌, Some, None, Option, refl, ap, ◌∙◌, inl, inr, ⊎_elim, arith}
 use Rattle.std.proofs.lemmas.Bool.{eqb-true, eq-eqb, ne_eqb, cases_eq, cond-true, cond-false, both_ways}
 use Rattle.algebra.specs.Meaning.{Arithmetic, first, or_else, inverse_in, with_inverses}
-use Rattle.algebra.specs.Laws.{Total, RingLaws, InverseOf, InverseLaws}
+use Rattle.algebra.specs.Laws.{Total, RingLaws, InverseOf, HasInverses, InverseLaws}
 use Rattle.algebra.proofs.RingFacts.{inverse_only, zero_times}
 
 module _ (test : ℕ → Bool) where
@@ -30,9 +30,6 @@ module _ (test : ℕ → Bool) where
   first_none n fails = ⊎_elim (λ f. absurd (both_ways _ (fails f.0 f.2) f.3)) (λ m. m.0) (first_cases n)
 
 module _ (A : Arithmetic) (total : Total A) (ring : RingLaws A) where
-  abbrev pub HasInverses : Type 0
-  HasInverses = (a : ℕ) → (a ≡ 0 → ⊥) → a < A.size → (b : ℕ) × (b < A.size) × (A.times a b ≡ 1)
-
   -- whatever element makes 1 with a is the one that the search finds
   pub inverse_found : (a b : ℕ) → a < A.size → b < A.size → A.times a b ≡ 1 → (inverse_in A a ≡ Some b) × InverseOf A a b
   inverse_found a b ha hb e =
@@ -44,7 +41,7 @@ module _ (A : Arithmetic) (total : Total A) (ring : RingLaws A) where
   nothing : (a : ℕ) → ((b : ℕ) → b < A.size → A.times a b ≡ 0) → inverse_in A a ≡ None
   nothing a zeros = first_none (λ x. eqb (A.times a x) 1) A.size (λ x h. ne_eqb _ 1 (λ one. let z = zeros x h in omega arith))
 
-  pub inverse_laws : HasInverses → InverseLaws (with_inverses A)
+  pub inverse_laws : HasInverses A → InverseLaws (with_inverses A)
   inverse_laws has = record {
     inverts = λ a nonzero ha. let h = has a nonzero ha in let found = inverse_found a h.0 ha h.1 h.2 in (h.0, found.0, found.1);
     nothing_for_zero = nothing 0 (λ b hb. zero_times A total ring b hb);

@@ -1,9 +1,9 @@
 -- Lengths of the polynomials on numbers, and that every answer is an element. Assumes nothing.
-use Rattle.std.proofs.Common.{◌≡◌, ℕ, zero, suc, pred, ◌<◌, List, [], ◌∷◌, length, get_or, refl, ap, ◌∙◌, arith}
+use Rattle.std.proofs.Common.{◌≡◌, ℕ, zero, suc, pred, ◌<◌, List, [], ◌∷◌, length, refl, ap, ◌∙◌, arith}
 use Rattle.algebra.specs.Meaning.{Arithmetic}
 use Rattle.algebra.specs.Laws.{Total}
 use Rattle.algebra.specs.Power.{times_power, sum}
-use Rattle.algebra.specs.Polynomial.{evaluate, plus_linear, annihilator, quotient_linear, act}
+use Rattle.algebra.specs.Polynomial.{AllElements, evaluate, plus_linear, annihilator, quotient_linear, act}
 
 pub length_plus_linear : (A : Arithmetic) (c a : ℕ) (p : List ℕ) → length (plus_linear A c a p) ≡ suc (length p)
 length_plus_linear A c a [] = refl
@@ -36,20 +36,19 @@ module _ {A : Arithmetic} (total : Total A) where
   times_power_element x a (suc k) h = total.times_element _ a
 
   -- the coefficients of a product with X − a, of an annihilator and of a quotient
-  pub plus_linear_elements : (c a : ℕ) (p : List ℕ) → c < A.size → ((k : ℕ) → get_or p k 0 < A.size) → (k : ℕ) →
-      get_or (plus_linear A c a p) k 0 < A.size
+  pub plus_linear_elements : (c a : ℕ) (p : List ℕ) → c < A.size → AllElements A p → AllElements A (plus_linear A c a p)
   plus_linear_elements c a [] hc hp zero = hc
   plus_linear_elements c a [] hc hp (suc k) = omega (arith, total.smallest)
   plus_linear_elements c a (d ∷ p) hc hp zero = total.minus_element c _
   plus_linear_elements c a (d ∷ p) hc hp (suc k) = plus_linear_elements d a p (hp 0) (λ k. hp (suc k)) k
 
-  pub annihilator_elements : (points : List ℕ) (k : ℕ) → get_or (annihilator A points) k 0 < A.size
+  pub annihilator_elements : (points : List ℕ) → AllElements A (annihilator A points)
   annihilator_elements [] zero = total.smallest
   annihilator_elements [] (suc k) = omega (arith, total.smallest)
   annihilator_elements (a ∷ points) k = plus_linear_elements 0 a (annihilator A points) (omega (arith, total.smallest))
       (annihilator_elements points) k
 
-  pub quotient_linear_elements : (a : ℕ) (p : List ℕ) (k : ℕ) → get_or (quotient_linear A a p) k 0 < A.size
+  pub quotient_linear_elements : (a : ℕ) (p : List ℕ) → AllElements A (quotient_linear A a p)
   quotient_linear_elements a [] k = omega (arith, total.smallest)
   quotient_linear_elements a (c ∷ []) k = omega (arith, total.smallest)
   quotient_linear_elements a (c ∷ d ∷ p) zero = evaluate_element (d ∷ p) a

@@ -9,7 +9,7 @@ pub mod Places
 pub mod Counts
 pub mod Coefficients
 pub mod Terms
+pub mod Applied
 pub mod Numbers
 pub mod Decoding
 pub mod PairSteps
-mod Examples

@@ -7,8 +7,7 @@ use Rattle.algebra.specs.Meaning.{Arithmetic, Meaning}
 use Rattle.algebra.specs.Laws.{Total, RingLaws, Laws}
 use Rattle.algebra.specs.Places.{Member, member, without}
 use Rattle.algebra.specs.Power.{times_power, power, sum}
-use Rattle.algebra.specs.Polynomial.{negate, evaluate, quotient_linear, act, divide}
-use Rattle.algebra.specs.Realisation.{applied}
+use Rattle.algebra.specs.Polynomial.{AllElements, negate, evaluate, quotient_linear, act, divide}
 use Rattle.algebra.specs.Theorems
 use Rattle.algebra.proofs.Places.{
   member_only,
@@ -24,7 +23,7 @@ use Rattle.algebra.proofs.Places.{
   distinct_places,
 }
 use Rattle.algebra.proofs.rings.Ring.{CommutativeRing, AbstractField, 𝟘_⊗, ⊕_⊖}
-use Rattle.algebra.proofs.rings.Sums.{Σ_cong, Σ_reorder}
+use Rattle.algebra.proofs.rings.Sums.{Σ_reorder}
 use Rattle.algebra.proofs.rings.Polynomials
 use Rattle.algebra.proofs.Lengths.{times_power_element}
 use Rattle.algebra.proofs.RingFacts.{times_zero}
@@ -34,9 +33,6 @@ use Rattle.algebra.proofs.rings.Syndromes
 use Rattle.algebra.proofs.rings.Filling
 use Rattle.algebra.proofs.elements.Carrier
 use Rattle.algebra.proofs.elements.Elements
-use Rattle.algebra.proofs.Coefficients.{InField}
-use Rattle.algebra.proofs.rings.Convolutions.{conv}
-use Rattle.algebra.proofs.elements.Realisations.{lifted, value_lifted, coeff_lifted, applied_is}
 
 module _ (A : Arithmetic) (total : Total A) (laws : RingLaws A) where
   abbrev W : Carrier.Lawful A
@@ -224,7 +220,7 @@ module _ {m : Meaning} (laws : Laws m) (n : ℕ) (a : ℕ → ℕ) (E : List ℕ
       by_test true e = e refl
       by_test false e = sym (Elements.zero_value (S laws) (𝟘_⊗ (K laws).ring z))
 
-  interpolation_at : (p : List ℕ) → ((k : ℕ) → get_or p k 0 < m.arithmetic.size) → length p ≤ length E → (k : ℕ) → k < length E →
+  interpolation_at : (p : List ℕ) → AllElements m.arithmetic p → length p ≤ length E → (k : ℕ) → k < length E →
       get_or p k 0 ≡
       sum m.arithmetic n (λ j.
       cond (member j E)
@@ -317,15 +313,3 @@ filling_only laws n r a h u v E L M elements D = filling_only_at laws n a E L D 
 
 pub filling_makes : {m : Meaning} → Laws m → Theorems.FillingMakes m
 filling_makes laws n a h u E L M elements D = filling_makes_at laws n a E L D h M u elements
-
--- a list of at most m + 1 coefficients acts on the sequence as it is applied to it
-pub act_applied : {m : Meaning} → Laws m → (p s : List ℕ) → InField m.arithmetic p → InField m.arithmetic s → (d k : ℕ) → length p ≤ suc d →
-    act m.arithmetic p (λ i. get_or s i 0) k ≡ applied m.arithmetic p d s k
-unfolding conv
-act_applied {m} laws p s hp hs d k short =
-    ap (λ q. act m.arithmetic q (λ i. get_or s i 0) k) (Carrier.coefficients_up (S laws) p hp)
-    ∙ Carrier.act_up (S laws) (map (lift laws) p) _ (lifted (S laws) s) k (λ i _. sym (value_lifted (S laws) s hs (k + i)))
-    ∙ ap (λ x. x.0)
-    (Polynomials.act_sum (K laws).ring (suc d) (map (lift laws) p) (lifted (S laws) s) k (omega (arith, length-map p (lift laws)))
-    ∙ Σ_cong (K laws).ring (suc d) _ _ (λ j _. ap (λ z. (K laws).ring.◌⊗◌ z (lifted (S laws) s (k + j))) (coeff_lifted (S laws) p hp j)))
-    ∙ sym (applied_is (S laws) p s hp hs d k)

@@ -1,47 +1,22 @@
--- What a step of the algorithm for minimal pairs does to a pair of polynomials, about numbers. Assumes nothing.
-use Rattle.std.proofs.Common.{◌≡◌, ◌≢◌, ℕ, zero, suc, ◌+◌, ◌-◌, ◌<◌, ◌≤◌, cond, ltb, List, length, get_or, sym, ap, ◌∙◌, ap₂, ⊎_elim, arith}
+-- What the steps of the algorithm for minimal pairs do, about numbers (specs/PairSteps.antt), carried from the field of elements.
+-- Assumes nothing.
+use Rattle.std.proofs.Common.{◌≡◌, ◌≢◌, ℕ, zero, suc, ◌+◌, ◌-◌, ◌<◌, ◌≤◌, ltb, List, length, get_or, sym, ap, ◌∙◌, ap₂, ⊎_elim, arith}
 use mathlib.Core.Path.{subst⁻¹}
 use Rattle.std.proofs.lemmas.Bool.{cases_lt, cond_both, cond-true, cond-false, lt-ltb, le-ltb}
 use Rattle.algebra.specs.Meaning.{Arithmetic, Meaning}
 use Rattle.algebra.specs.Laws.{Laws}
 use Rattle.algebra.specs.Power.{sum}
-use Rattle.algebra.specs.Polynomial.{negate}
-use Rattle.algebra.specs.Realisation.{Degree, Minimal, applied, partner}
+use Rattle.algebra.specs.Polynomial.{AllElements, negate}
+use Rattle.algebra.specs.Realisation.{Minimal, applied, partner}
+use Rattle.algebra.specs.PairSteps.{Fitting, Kept, Combined}
 use Rattle.algebra.proofs.Lengths.{sum_element}
-use Rattle.algebra.proofs.RingFacts.{minus_self, negate_negate}
-use Rattle.algebra.proofs.Coefficients.{InField}
+use Rattle.algebra.proofs.RingFacts.{zero_element, minus_self, negate_negate}
 use Rattle.algebra.proofs.rings.Ring.{CommutativeRing, ring_zeros}
 use Rattle.algebra.proofs.elements.Carrier.{Element, element_path, Lawful, lawful, ring, lift, value_lift, minus_is, field}
 use Rattle.algebra.proofs.elements.Elements.{is_zero, zero_value, lift_zero}
 use Rattle.algebra.proofs.rings.Convolutions.{conv, conv_bound, shift, shift_below, shift_from, difference}
 use Rattle.algebra.proofs.rings.MinimalPairs as abstract
 use Rattle.algebra.proofs.elements.Realisations.{lifted, value_lifted, lifted_zero, zero_lifted, scaled_is, applied_is, partner_is}
-
--- f has degree m and fits the first i numbers of s, and w is its partner
-pub record Fitting (A : Arithmetic) (s : List ℕ) (i m : ℕ) (f w : List ℕ) : Type 0 where
-  pub degree : Degree A f m
-  pub fits : (k : ℕ) → k + m < i → applied A f m s k ≡ 0
-  pub partners : (k : ℕ) → get_or w k 0 ≡ partner A s f m k
-
--- The pair that was kept when the degree grew to m: its degree is at most m', and D, at the place m − 1, is the first
--- number other than 0 that f makes of s. Before the degree has grown, m is 0, and the pair 0, −1 is kept, whose w is by
--- D = 1 less than its partner.
-pub record Kept (A : Arithmetic) (s : List ℕ) (m m' : ℕ) (f w : List ℕ) (D : ℕ) : Type 0 where
-  pub f_in : InField A f
-  pub w_in : InField A w
-  pub f_above : (j : ℕ) → m' < j → get_or f j 0 ≡ 0
-  pub w_above : (j : ℕ) → m' < j → get_or w j 0 ≡ 0
-  pub element : D < A.size
-  pub nonzero : D ≢ 0
-  pub fits : (k : ℕ) → suc k < m → applied A f m' s k ≡ 0
-  pub remains : (k : ℕ) → suc k ≡ m → applied A f m' s k ≡ D
-  pub partners : (k : ℕ) → 0 < m + k → get_or w k 0 ≡ partner A s f m' k
-  pub starts : m ≡ 0 → A.minus (partner A s f m' 0) (get_or w 0 0) ≡ D
-
--- g is a × p − b × X^d × q up to X^m, and has no coefficient above
-pub record Combined (A : Arithmetic) (a : ℕ) (p : List ℕ) (b d : ℕ) (q : List ℕ) (m : ℕ) (g : List ℕ) : Type 0 where
-  pub same : (j : ℕ) → j ≤ m → get_or g j 0 ≡ cond (ltb j d) (A.times a (get_or p j 0)) (A.minus (A.times a (get_or p j 0)) (A.times b (get_or q (j - d) 0)))
-  pub above : (j : ℕ) → m < j → get_or g j 0 ≡ 0
 
 module _ {meaning : Meaning} (laws : Laws meaning) where
   abbrev A : Arithmetic
@@ -58,18 +33,15 @@ module _ {meaning : Meaning} (laws : Laws meaning) where
   infixl 60 ◌⊕◌
   infixl 70 ◌⊗◌
   infixr 80 ⊖◌
-  zero_in : 0 < A.size
-  zero_in = omega (arith, laws.total.smallest)
-
   -- past the degree a polynomial has no partner
   no_partner : (s f : List ℕ) (m k : ℕ) → m ≤ k → partner A s f m k ≡ 0
   no_partner s f m k past = let none : m - k ≡ 0 = omega arith in ap (λ n. sum A n (λ t. A.times (get_or f (k + 1 + t) 0) (get_or s t 0))) none
 
   -- combinations
   module _ (a : ℕ) (p : List ℕ) (b d : ℕ) (q : List ℕ) (m : ℕ) (g : List ℕ) (made : Combined A a p b d q m g) where
-    combined_in : InField A g
+    combined_in : AllElements A g
     combined_in j =
-        ⊎_elim (λ above. subst⁻¹ (λ (x : ℕ). x < A.size) (made.above j above) zero_in)
+        ⊎_elim (λ above. subst⁻¹ (λ (x : ℕ). x < A.size) (made.above j above) (zero_element A laws.total laws.ring))
         (λ below. subst⁻¹ (λ (x : ℕ). x < A.size) (made.same j below)
         (cond_both (ltb j d) _ _ (λ x. x < A.size) (λ _. laws.total.times_element _ _) (λ _. laws.total.minus_element _ _)))
         (cases_lt m j)
@@ -80,7 +52,7 @@ module _ {meaning : Meaning} (laws : Laws meaning) where
     less_nothing : (x y : Element A) → x ≡ x ⊕ ⊖ (y ⊗ 𝟘)
     less_nothing x y = sym (simp ring_zeros)
 
-    module _ (ha : a < A.size) (hb : b < A.size) (hp : InField A p) (hq : InField A q) where
+    module _ (ha : a < A.size) (hb : b < A.size) (hp : AllElements A p) (hq : AllElements A q) where
       low : (j : ℕ) → j ≤ m → j < d → get_or g j 0 ≡ (combination j).0
       low j within h =
           made.same j within ∙ cond-true _ _ _ (lt-ltb j d h) ∙ scaled_is W a p ha hp j
@@ -99,9 +71,9 @@ module _ {meaning : Meaning} (laws : Laws meaning) where
         above = λ j h. lifted_zero W g combined_in j (made.above j h);
       }
 
-  module _ (s : List ℕ) (s-in : InField A s) where
+  module _ (s : List ℕ) (s-in : AllElements A s) where
     -- what f makes of the sequence, and what w lacks to its partner
-    module _ (N m : ℕ) (f w : List ℕ) (f-in : InField A f) (w-in : InField A w) (small : m < N) (above : (j : ℕ) → m < j → get_or f j 0 ≡ 0) where
+    module _ (N m : ℕ) (f w : List ℕ) (f-in : AllElements A f) (w-in : AllElements A w) (small : m < N) (above : (j : ℕ) → m < j → get_or f j 0 ≡ 0) where
       abbrev residual : ℕ → Element A
       residual = abstract.residual R (lifted W s) N (lifted W f) (lifted W w)
 
@@ -132,7 +104,7 @@ module _ {meaning : Meaning} (laws : Laws meaning) where
     whole f w m k e = ap (A.minus (partner A s f m k)) e ∙ minus_self A laws.total laws.ring _ (partner_element f m k)
 
     module _ (i m : ℕ) (f w : List ℕ) (p : Fitting A s i m f w) where
-      fitting_w_in : InField A w
+      fitting_w_in : AllElements A w
       fitting_w_in k = subst⁻¹ (λ (x : ℕ). x < A.size) (p.partners k) (partner_element f m k)
 
       fitting_w_above : (k : ℕ) → m < k → get_or w k 0 ≡ 0
@@ -150,7 +122,7 @@ module _ {meaning : Meaning} (laws : Laws meaning) where
       }
 
     fitting_down :
-        (N i m : ℕ) (f w : List ℕ) → m < N → m ≤ i → InField A f → InField A w → abstract.Fitting R (lifted W s) N i m (lifted W f) (lifted W w) →
+        (N i m : ℕ) (f w : List ℕ) → m < N → m ≤ i → AllElements A f → AllElements A w → abstract.Fitting R (lifted W s) N i m (lifted W f) (lifted W w) →
         Fitting A s i m f w
     fitting_down N i m f w small read hf hw p = record {
       degree = record {
@@ -170,14 +142,14 @@ module _ {meaning : Meaning} (laws : Laws meaning) where
         (N m m' : ℕ) (f w : List ℕ) (D : ℕ) → m' < N → Kept A s m m' f w D → abstract.Kept R (lifted W s) N m m' (lifted W f) (lifted W w) (lift W D)
     kept_up N m m' f w D small p = record {
       bounded = record {
-        f_above = λ j h. lifted_zero W f p.f_in j (p.f_above j h);
-        w_above = λ j h. lifted_zero W w p.w_in j (p.w_above j h);
+        f_above = λ j h. lifted_zero W f p.f_elements j (p.f_above j h);
+        w_above = λ j h. lifted_zero W w p.w_elements j (p.w_above j h);
       };
       nonzero = λ e. p.nonzero (lift_zero W D p.element e);
       vanishes = λ n h. is_zero W
-          (residual_by N m' f w p.f_in p.w_in small p.f_above 0 n (λ before. whole f w m' _ (p.partners _ (omega arith))) (λ past. p.fits (n - N) (omega arith)));
+          (residual_by N m' f w p.f_elements p.w_elements small p.f_above 0 n (λ before. whole f w m' _ (p.partners _ (omega arith))) (λ past. p.fits (n - N) (omega arith)));
       remains = λ n h. element_path A
-          (residual_by N m' f w p.f_in p.w_in small p.f_above D n
+          (residual_by N m' f w p.f_elements p.w_elements small p.f_above D n
           (λ before. let first : N - suc n ≡ 0 = omega arith in ap (λ k. A.minus (partner A s f m' k) (get_or w k 0)) first ∙ p.starts (omega arith))
           (λ past. p.remains (n - N) (omega arith))
           ∙ sym (value_lift W D p.element));
@@ -199,15 +171,15 @@ module _ {meaning : Meaning} (laws : Laws meaning) where
       partners = λ k. none k ∙ sym (no_partner s f 0 k (omega arith));
     }
       where
-        elements : InField A f
+        elements : AllElements A f
         elements zero = subst⁻¹ (λ (x : ℕ). x < A.size) one laws.total.smallest
-        elements (suc j) = subst⁻¹ (λ (x : ℕ). x < A.size) (above (suc j) (omega arith)) zero_in
+        elements (suc j) = subst⁻¹ (λ (x : ℕ). x < A.size) (above (suc j) (omega arith)) (zero_element A laws.total laws.ring)
 
     -- and the kept pair 0, −1 with the discrepancy 1
     pub starts_kept : (f w : List ℕ) → ((j : ℕ) → get_or f j 0 ≡ 0) → get_or w 0 0 ≡ negate A 1 → ((j : ℕ) → 0 < j → get_or w j 0 ≡ 0) → Kept A s 0 0 f w 1
     starts_kept f w none minus_one above = record {
-      f_in = λ j. subst⁻¹ (λ (x : ℕ). x < A.size) (none j) zero_in;
-      w_in = elements;
+      f_elements = λ j. subst⁻¹ (λ (x : ℕ). x < A.size) (none j) (zero_element A laws.total laws.ring);
+      w_elements = elements;
       f_above = λ j _. none j;
       w_above = above;
       element = laws.total.smallest;
@@ -218,9 +190,9 @@ module _ {meaning : Meaning} (laws : Laws meaning) where
       starts = λ _. ap₂ A.minus (no_partner s f 0 0 (omega arith)) minus_one ∙ negate_negate A laws.total laws.ring 1 laws.total.smallest;
     }
       where
-        elements : InField A w
+        elements : AllElements A w
         elements zero = subst⁻¹ (λ (x : ℕ). x < A.size) minus_one (laws.total.minus_element 0 1)
-        elements (suc j) = subst⁻¹ (λ (x : ℕ). x < A.size) (above (suc j) (omega arith)) zero_in
+        elements (suc j) = subst⁻¹ (λ (x : ℕ). x < A.size) (above (suc j) (omega arith)) (zero_element A laws.total laws.ring)
 
     -- D is the pair's discrepancy at the number i
     module _ (i m : ℕ) (f w : List ℕ) (D : ℕ) (fitting : Fitting A s i m f w) (read : m ≤ i) (discrepancy : D ≡ applied A f m s (i - m)) where
@@ -238,8 +210,8 @@ module _ {meaning : Meaning} (laws : Laws meaning) where
       -- where the degree grows, by d, the pair is kept
       pub keeps : (d : ℕ) → D ≢ 0 → d + (m + m) ≡ suc i → Kept A s (m + d) m f w D
       keeps d nonzero e = record {
-        f_in = fitting.degree.elements;
-        w_in = fitting_w_in i m f w fitting;
+        f_elements = fitting.degree.elements;
+        w_elements = fitting_w_in i m f w fitting;
         f_above = fitting.degree.above;
         w_above = fitting_w_above i m f w fitting;
         element = discrepancy_element;
@@ -258,8 +230,8 @@ module _ {meaning : Meaning} (laws : Laws meaning) where
             (abstract.stays (field laws) (lifted W s) (suc m) i m m' d _ _ _ _ _ _ (lift W D) (lift W D')
             (fitting_up i m f w fitting (suc m) (omega arith) read) (kept_up (suc m) m m' f' w' D' (omega arith) kept)
             (discrepancy_up (suc m) i m f w D (omega arith) read fitting discrepancy) behind (omega arith) e
-            (combined_is _ _ _ _ _ _ _ g-made kept.element discrepancy_element fitting.degree.elements kept.f_in)
-            (combined_is _ _ _ _ _ _ _ v-made kept.element discrepancy_element (fitting_w_in i m f w fitting) kept.w_in))
+            (combined_is _ _ _ _ _ _ _ g-made kept.element discrepancy_element fitting.degree.elements kept.f_elements)
+            (combined_is _ _ _ _ _ _ _ v-made kept.element discrepancy_element (fitting_w_in i m f w fitting) kept.w_elements))
 
         -- where it is negative, the degree grows by d, here without its sign
         pub grows : d + (m + m) ≡ suc i → Combined A D f' D' d f (m + d) g → Combined A D w' D' d w (m + d) v → Fitting A s (suc i) (m + d) g v
@@ -269,8 +241,8 @@ module _ {meaning : Meaning} (laws : Laws meaning) where
             (abstract.grows (field laws) (lifted W s) N i m m' d _ _ _ _ _ _ (lift W D) (lift W D')
             (fitting_up i m f w fitting N (omega arith) read) (kept_up N m m' f' w' D' (omega arith) kept)
             (discrepancy_up N i m f w D (omega arith) read fitting discrepancy) behind (omega arith) e
-            (combined_is _ _ _ _ _ _ _ g-made discrepancy_element kept.element kept.f_in fitting.degree.elements)
-            (combined_is _ _ _ _ _ _ _ v-made discrepancy_element kept.element kept.w_in (fitting_w_in i m f w fitting)))
+            (combined_is _ _ _ _ _ _ _ g-made discrepancy_element kept.element kept.f_elements fitting.degree.elements)
+            (combined_is _ _ _ _ _ _ _ v-made discrepancy_element kept.element kept.w_elements (fitting_w_in i m f w fitting)))
 
     -- a pair that fits the whole sequence, with a kept pair behind it, is minimal
     pub minimal : (m m' : ℕ) (f w f' w' : List ℕ) (D : ℕ) → Fitting A s (length s) m f w → Kept A s m m' f' w' D → m + m' ≤ length s → Minimal A s m f w

@@ -19,13 +19,14 @@ module _ (A : Arithmetic) (total : Total A) (ring : RingLaws A) where
   pub one_times : (a : ℕ) → a < A.size → A.times 1 a ≡ a
   one_times a h = ring.times_comm 1 a one_element h ∙ ring.times_one a h
 
+  -- an element and its negative add up to 0
+  pub plus_negate : (a : ℕ) → a < A.size → A.plus a (negate A a) ≡ 0
+  plus_negate a h = ring.plus_comm a (negate A a) h (total.minus_element 0 a) ∙ ring.minus_plus 0 a zero_element h
+
   -- (a + c) + (0 − c) is a
-  plus_back : (a c : ℕ) → a < A.size → c < A.size → A.plus (A.plus a c) (A.minus 0 c) ≡ a
+  plus_back : (a c : ℕ) → a < A.size → c < A.size → A.plus (A.plus a c) (negate A c) ≡ a
   plus_back a c ha hc =
-      let hn = total.minus_element 0 c in
-      ring.plus_assoc a c (A.minus 0 c) ha hc hn
-      ∙ ap (A.plus a) (ring.plus_comm c (A.minus 0 c) hc hn ∙ ring.minus_plus 0 c zero_element hc)
-      ∙ ring.plus_zero a ha
+      ring.plus_assoc a c (negate A c) ha hc (total.minus_element 0 c) ∙ ap (A.plus a) (plus_negate c hc) ∙ ring.plus_zero a ha
 
   pub plus_cancel : (a b c : ℕ) → a < A.size → b < A.size → c < A.size → A.plus a c ≡ A.plus b c → a ≡ b
   plus_cancel a b c ha hb hc e = sym (plus_back a c ha hc) ∙ ap (λ x. A.plus x (A.minus 0 c)) e ∙ plus_back b c hb hc
@@ -55,10 +56,7 @@ module _ (A : Arithmetic) (total : Total A) (ring : RingLaws A) where
   pub minus_self : (a : ℕ) → a < A.size → A.minus a a ≡ 0
   minus_self a h = sym (minus_only a a 0 h h zero_element (zero_plus a h))
 
-  -- the element with the other sign: what it adds up to, as a factor, and its own
-  pub plus_negate : (a : ℕ) → a < A.size → A.plus a (negate A a) ≡ 0
-  plus_negate a h = ring.plus_comm a (negate A a) h (total.minus_element 0 a) ∙ ring.minus_plus 0 a zero_element h
-
+  -- the negative of a negative, and of a factor
   pub negate_negate : (a : ℕ) → a < A.size → negate A (negate A a) ≡ a
   negate_negate a h = sym (minus_only 0 (negate A a) a zero_element (total.minus_element 0 a) h (plus_negate a h))
 

@@ -1,4 +1,4 @@
--- The elements of a lawful meaning as such a ring and field, and what is defined on numbers as what is defined there.
+-- The elements of a lawful meaning as a ring and a field, and each definition on numbers as the one on elements. Private, as rings.
 pub mod Carrier
 pub mod Elements
 pub mod Realisations

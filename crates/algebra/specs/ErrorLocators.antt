@@ -3,7 +3,7 @@
 use Rattle.std.specs.Prelude.{◌≡◌, ℕ, suc, ◌+◌, ◌*◌, ◌<◌, ◌≤◌, Bool, true, cond, ◌⊎◌, List, map, length, ◌==◌, ◌≢◌, slice_index}
 use Rattle.algebra.specs.Meaning.{Arithmetic, Meaning}
 use Rattle.algebra.specs.Places.{Member, member, failures, failing}
-use Rattle.algebra.specs.Polynomial.{evaluate, annihilator, act}
+use Rattle.algebra.specs.Polynomial.{AllElements, evaluate, annihilator, act}
 use Rattle.algebra.specs.Theorems.{Elements, Locators, Multipliers, DistinctPlaces, word_sum, noted_sum, erased_letter}
 
 -- erased, or the same in u and c
@@ -35,7 +35,7 @@ FitsModified A n r a h u E f = (k : ℕ) → k + length f + length E ≤ r → a
 abbrev pub FewRoots : Meaning → Type 0
 FewRoots m =
     (n k : ℕ) (a : ℕ → ℕ) (Z f : List ℕ) → Locators m.arithmetic n a → DistinctPlaces n Z →
-    ((k : ℕ) → slice_index f k < m.arithmetic.size) → ((j : ℕ) → Member j Z → evaluate m.arithmetic f (a j) ≡ 0) →
+    AllElements m.arithmetic f → ((j : ℕ) → Member j Z → evaluate m.arithmetic f (a j) ≡ 0) →
     (slice_index f k ≢ 0) → length Z < length f
 
 -- the annihilator of any places W with all errors among them fits
@@ -56,14 +56,14 @@ ErrorLocator m =
 abbrev pub ErrorRoots : Meaning → Type 0
 ErrorRoots m =
     (n r : ℕ) (a h u c : ℕ → ℕ) (E f : List ℕ) → Received m.arithmetic n r a h u c E → 2 * errors n E u c + length E ≤ r →
-    ((k : ℕ) → slice_index f k < m.arithmetic.size) → length f ≤ suc (errors n E u c) → FitsModified m.arithmetic n r a h u E f →
+    AllElements m.arithmetic f → length f ≤ suc (errors n E u c) → FitsModified m.arithmetic n r a h u E f →
     (j : ℕ) → j < n → (Member j E → ⊥) → (u j ≢ c j) → evaluate m.arithmetic f (a j) ≡ 0
 
 -- reading is complete: with the roots of such a polynomial erased too, filling gives the codeword
 abbrev pub Completeness : Meaning → Type 0
 Completeness m =
     (n r : ℕ) (a h u c : ℕ → ℕ) (E f F : List ℕ) → Received m.arithmetic n r a h u c E → 2 * errors n E u c + length E ≤ r →
-    ((k : ℕ) → slice_index f k < m.arithmetic.size) → length f ≤ suc (errors n E u c) → FitsModified m.arithmetic n r a h u E f →
+    AllElements m.arithmetic f → length f ≤ suc (errors n E u c) → FitsModified m.arithmetic n r a h u E f →
     DistinctPlaces n F → length F ≤ r → ((j : ℕ) → j < n → (Member j E) ⊎ (evaluate m.arithmetic f (a j) ≡ 0) → Member j F) →
     (j : ℕ) → j < n → c j ≡ cond (member j F) (erased_letter m a h F (noted_sum m.arithmetic n a h F u) j) (u j)
 

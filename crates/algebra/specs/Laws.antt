@@ -32,6 +32,10 @@ pub record InverseOf (A : Arithmetic) (a b : ℕ) : Type 0 where
   pub product : A.times a b ≡ 1
   pub only : (c : ℕ) → c < A.size → A.times a c ≡ 1 → c ≡ b
 
+-- every element other than 0 makes 1 with some element
+abbrev pub HasInverses : Arithmetic → Type 0
+HasInverses A = (a : ℕ) → (a ≢ 0) → a < A.size → (b : ℕ) × (b < A.size) × (A.times a b ≡ 1)
+
 -- Every element other than 0 has exactly one inverse, and the field answers it. It answers nothing for 0 and for
 -- a number that is no element.
 pub record InverseLaws (m : Meaning) : Type 0 where

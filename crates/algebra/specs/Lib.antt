@@ -6,5 +6,8 @@ pub mod Alphabet
 pub mod Places
 pub mod Polynomial
 pub mod Realisation
+pub mod PairSteps
+pub mod Modulus
 pub mod Theorems
 pub mod ErrorLocators
+pub mod WorkedExample

@@ -1,6 +1,10 @@
 -- Polynomials over a ring's elements, as lists of coefficients with the constant term first. Assumes nothing.
-use Rattle.std.specs.Prelude.{ℕ, suc, List, [], ◌∷◌, Some, None, Option}
+use Rattle.std.specs.Prelude.{ℕ, suc, ◌<◌, List, [], ◌∷◌, Some, None, Option, slice_index}
 use Rattle.algebra.specs.Meaning.{Arithmetic, Meaning}
+
+-- every coefficient is an element; past the end of the list stands 0
+abbrev pub AllElements : Arithmetic → List ℕ → Type 0
+AllElements A p = (k : ℕ) → slice_index p k < A.size
 
 -- −x
 abbrev pub negate : Arithmetic → ℕ → ℕ

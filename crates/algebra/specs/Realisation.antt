@@ -3,10 +3,11 @@
 use Rattle.std.specs.Prelude.{◌≡◌, ◌≢◌, ℕ, suc, ◌+◌, ◌-◌, ◌<◌, ◌≤◌, List, length, slice_index}
 use Rattle.algebra.specs.Meaning.{Arithmetic}
 use Rattle.algebra.specs.Power.{sum}
+use Rattle.algebra.specs.Polynomial.{AllElements}
 
 -- f has degree m: its coefficients are elements, that of X^m is not 0, and those above are 0. So f is not 0.
 pub record Degree (A : Arithmetic) (f : List ℕ) (m : ℕ) : Type 0 where
-  pub elements : (j : ℕ) → slice_index f j < A.size
+  pub elements : AllElements A f
   pub leads : slice_index f m ≢ 0
   pub above : (j : ℕ) → m < j → slice_index f j ≡ 0
 

@@ -4,7 +4,7 @@ use Rattle.std.specs.Prelude.{◌≡◌, ℕ, ◌<◌, ◌≤◌, cond, List, ma
 use Rattle.algebra.specs.Meaning.{Arithmetic, Meaning}
 use Rattle.algebra.specs.Power.{times_power, power, sum}
 use Rattle.algebra.specs.Places.{Member, Distinct, member, without, weight, distance}
-use Rattle.algebra.specs.Polynomial.{negate, evaluate, annihilator, quotient_linear, act, divide}
+use Rattle.algebra.specs.Polynomial.{AllElements, negate, evaluate, annihilator, quotient_linear, act, divide}
 
 -- the values below n are elements
 abbrev pub Elements : Arithmetic → ℕ → (ℕ → ℕ) → Type 0
@@ -38,7 +38,7 @@ Reordering A =
 -- p(x) = p(a) + (x − a) q(x), with q the quotient of p by X − a
 abbrev pub Division : Arithmetic → Type 0
 Division A =
-    (a x : ℕ) (p : List ℕ) → a < A.size → x < A.size → ((k : ℕ) → slice_index p k < A.size) →
+    (a x : ℕ) (p : List ℕ) → a < A.size → x < A.size → AllElements A p →
     evaluate A p x ≡ A.plus (evaluate A p a) (A.times (A.minus x a) (evaluate A (quotient_linear A a p) x))
 
 -- the annihilator of a list of points has leading coefficient 1
@@ -66,7 +66,7 @@ Kernel m =
 -- a polynomial with at most n coefficients that is 0 at n distinct points has every coefficient 0
 abbrev pub RootCount : Meaning → Type 0
 RootCount m =
-    (n : ℕ) (a : ℕ → ℕ) (p : List ℕ) → Locators m.arithmetic n a → ((k : ℕ) → slice_index p k < m.arithmetic.size) → length p ≤ n →
+    (n : ℕ) (a : ℕ → ℕ) (p : List ℕ) → Locators m.arithmetic n a → AllElements m.arithmetic p → length p ≤ n →
     ((i : ℕ) → i < n → evaluate m.arithmetic p (a i) ≡ 0) → (k : ℕ) → slice_index p k ≡ 0
 
 -- the product of X − a_i over the places i of E other than j, as a quotient
@@ -83,7 +83,7 @@ CofactorIs A =
 abbrev pub Interpolation : Meaning → Type 0
 Interpolation m =
     (n : ℕ) (a : ℕ → ℕ) (E p : List ℕ) → Locators m.arithmetic n a → DistinctPlaces n E →
-    ((k : ℕ) → slice_index p k < m.arithmetic.size) → length p ≤ length E → (k : ℕ) → k < length E →
+    AllElements m.arithmetic p → length p ≤ length E → (k : ℕ) → k < length E →
     slice_index p k ≡
     sum m.arithmetic n (λ j.
     cond (member j E)

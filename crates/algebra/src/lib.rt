@@ -5,4 +5,4 @@ mod limits;
 mod theorems;
 
 pub use limits::{COEFFICIENTS, LARGEST_CELLS, LARGEST_ROWS, LARGEST_SIZE, LONGEST_SEQUENCE};
-pub use theorems::{error_theorems, point_theorems, ring_theorems};
+pub use theorems::{error_theorems, point_theorems, ring_theorems, worked_example};

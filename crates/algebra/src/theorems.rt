@@ -3,6 +3,7 @@ ghost use Rattle.algebra.specs.Meaning.{Arithmetic, Meaning};
 ghost use Rattle.algebra.specs.Laws.{Total, RingLaws, Laws};
 ghost use Rattle.algebra.specs.Theorems.{TimesPowerIs, Reordering, WordReordering, Division, AnnihilatorMonic, AnnihilatorRoots, CofactorIs, AnnihilatorRootsOnly, Kernel, RootCount, Interpolation, Surjectivity, Distance, FillingOnly, FillingMakes};
 ghost use Rattle.algebra.specs.ErrorLocators.{FewRoots, LocatorFits, ErrorLocator, ErrorRoots, Completeness, OnlyNear};
+ghost use Rattle.algebra.specs.WorkedExample.{WorkedExample};
 
 // What holds in every ring: x × a^k is the product of x and a^k, the order of a sum does not matter, and what division by
 // X − a and the product of X − a over some points do.
@@ -36,4 +37,9 @@ pub fn error_theorems()
     ensures error_roots { (m : Meaning) → Laws m → ErrorRoots m }
     ensures completeness { (m : Meaning) → Laws m → Completeness m }
     ensures only_near { (m : Meaning) → Laws m → OnlyNear m }
+{}
+
+// The definitions at work, modulo 7.
+pub fn worked_example()
+    ensures { WorkedExample }
 {}

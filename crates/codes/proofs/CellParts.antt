@@ -2,10 +2,10 @@
 use Rattle.std.proofs.Common.{◌≡◌, ℕ, zero, suc, ◌<◌, ◌≢◌, List, length, get_or, set, Some, None, Option, sym, refl, ap, ◌∙◌, ap₂, inl, inr, arith, length-set, get_or-set_other, get_or-set_same}
 use Rattle.std.proofs.lemmas.List.{ext_get_or}
 use Rattle.std.proofs.lemmas.Bool.{cases_eq}
-use Rattle.algebra.specs.Meaning.{Arithmetic, Meaning}
+use Rattle.algebra.specs.Meaning.{Arithmetic}
 use Rattle.algebra.specs.Polynomial.{negate}
 use Rattle.algebra.specs.Power.{times_power}
-use Rattle.algebra.specs.Laws.{Laws}
+use Rattle.algebra.specs.Laws.{Total, RingLaws}
 use Rattle.algebra.proofs.RingFacts.{plus_negate, times_power_negate}
 use Rattle.algebra.proofs.Lengths.{times_power_element}
 use Rattle.codes.specs.Code.{Code}
@@ -21,25 +21,22 @@ get_d_set cells j i c x within here there =
       | inr other ↦ get_or-set_other cells j i c blank_cell other ∙ there other
     ]
 
-module _ {m : Meaning} (laws : Laws m) where
-  abbrev A : Arithmetic
-  A = m.arithmetic
-
+module _ {A : Arithmetic} (total : Total A) (laws : RingLaws A) where
   module _ (code : Code) where
     -- cell j's part in the sum of row k, where it has the letter x
     abbrev pub part : ℕ → ℕ → ℕ → ℕ
     part x j k = times_power A (A.times x (get_or code.multipliers j 0)) (get_or code.locators j 0) k
 
     part_element : (x j k : ℕ) → part x j k < A.size
-    part_element x j k = times_power_element laws.total _ _ k (laws.total.times_element x _)
+    part_element x j k = times_power_element total _ _ k (total.times_element x _)
 
     add_cell_element : (k i : ℕ) (o : Option ℕ) (s : ℕ) → s < A.size → add_cell A code k i o s < A.size
     add_cell_element k i None s h = h
-    add_cell_element k i (Some x) s h = laws.total.plus_element _ _
+    add_cell_element k i (Some x) s h = total.plus_element _ _
 
     sum_to_element : (cells : List Cell) (k i : ℕ) → sum_to A code cells k i < A.size
     unfolding sum_to
-    sum_to_element cells k zero = omega (arith, laws.total.smallest)
+    sum_to_element cells k zero = omega (arith, total.smallest)
     sum_to_element cells k (suc i) = add_cell_element k i (get_or cells i blank_cell).letter (sum_to A code cells k i) (sum_to_element cells k i)
 
     -- only the cells below i count
@@ -54,9 +51,9 @@ module _ {m : Meaning} (laws : Laws m) where
     add_cell_plus k i None s p hs hp = refl
     add_cell_plus k i (Some x) s p hs hp =
         let q = part x i k in
-        laws.ring.plus_assoc s p q hs hp (part_element x i k)
-        ∙ ap (A.plus s) (laws.ring.plus_comm p q hp (part_element x i k))
-        ∙ sym (laws.ring.plus_assoc s q p hs (part_element x i k) hp)
+        laws.plus_assoc s p q hs hp (part_element x i k)
+        ∙ ap (A.plus s) (laws.plus_comm p q hp (part_element x i k))
+        ∙ sym (laws.plus_assoc s q p hs (part_element x i k) hp)
 
     sum_to_noted : (cells : List Cell) (j x k i : ℕ) → j < length cells → (get_or cells j blank_cell).letter ≡ None → j < i →
         sum_to A code (set cells j (noted_cell x)) k i ≡ A.plus (sum_to A code cells k i) (part x j k)
@@ -98,7 +95,7 @@ module _ {m : Meaning} (laws : Laws m) where
         (λ other. get_or-set_other cells j i blank_cell blank_cell other)) in
         let whole : syndrome A code cells k ≡ A.plus S p =
         ap (λ (cs : List Cell). syndrome A code cs k) (sym back) ∙ syndrome_set_noted after j x k (omega arith) (ap (λ (c : Cell). c.letter) (get_or-set_same cells j blank_cell blank_cell within)) in
-        sym (ap₂ A.plus whole (times_power_negate A laws.total laws.ring (A.times x (get_or code.multipliers j 0)) (get_or code.locators j 0) k (laws.total.times_element x _) element)
-        ∙ laws.ring.plus_assoc S p (negate A p) hS hp (laws.total.minus_element 0 p)
-        ∙ ap (A.plus S) (plus_negate A laws.total laws.ring p hp)
-        ∙ laws.ring.plus_zero S hS)
+        sym (ap₂ A.plus whole (times_power_negate A total laws (A.times x (get_or code.multipliers j 0)) (get_or code.locators j 0) k (total.times_element x _) element)
+        ∙ laws.plus_assoc S p (negate A p) hS hp (total.minus_element 0 p)
+        ∙ ap (A.plus S) (plus_negate A total laws p hp)
+        ∙ laws.plus_zero S hS)

@@ -3,7 +3,8 @@ use Rattle.std.specs.Prelude.{◌≡◌, ℕ, zero, suc, ◌^◌, ◌<◌, ◌�
 use Rattle.std.proofs.Common.{sym, ap, ◌∙◌, ⊎_elim, arith, eq-zero-or-pos, pow_mono}
 use Rattle.std.specs.Int.Bits.{xor_assoc, xor_self, xor_zero_r}
 use Rattle.std.proofs.lemmas.Nat.{xor_comm, xor_lt}
-use Rattle.algebra.proofs.Modulus.{Modulus, modulus_total, modulus_ring, modulus_laws}
+use Rattle.algebra.specs.Modulus.{Modulus}
+use Rattle.algebra.proofs.Modulus.{modulus_total, modulus_ring, modulus_laws}
 use Rattle.algebra.proofs.OnElements.{on_elements_inside}
 use Rattle.algebra.proofs.Inverses.{inverse_found}
 use Rattle.algebra.specs.Laws.{Laws}

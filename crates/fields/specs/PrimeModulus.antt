@@ -9,7 +9,8 @@ use Rattle.algebra.specs.Alphabet.{Alphabet}
 use Rattle.algebra.specs.Laws.{Total, RingLaws, Laws}
 use Rattle.algebra.proofs.OnElements.{on_elements_inside}
 use Rattle.algebra.proofs.Inverses.{inverse_found}
-use Rattle.algebra.proofs.Modulus.{Modulus, modulus_total, modulus_ring, modulus_laws}
+use Rattle.algebra.specs.Modulus.{Modulus}
+use Rattle.algebra.proofs.Modulus.{modulus_total, modulus_ring, modulus_laws}
 use Rattle.fields.specs.Modulo.{Prime, Listed, modulo}
 use Rattle.fields.specs.Congruence.{mul_mod_left}
 use Rattle.fields.specs.ListedPrimes.{listed_prime, listed_small}

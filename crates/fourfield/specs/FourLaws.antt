@@ -2,9 +2,9 @@
 use Rattle.std.specs.Prelude.{◌≡◌, ℕ, zero, suc, ◌<◌, Bool, ◌⊎◌, [], length, Decides, slice_index_or, refl}
 use Rattle.std.proofs.Common.{sym, subst, inl, inr, arith, lit≤}
 use Rattle.algebra.specs.Alphabet.{Alphabet}
-use Rattle.algebra.specs.Laws.{Total, RingLaws, Laws}
+use Rattle.algebra.specs.Laws.{Total, RingLaws, HasInverses, Laws}
 use Rattle.algebra.specs.Meaning.{with_inverses}
-use Rattle.algebra.proofs.Inverses.{inverse_laws, HasInverses}
+use Rattle.algebra.proofs.Inverses.{inverse_laws}
 use Rattle.fourfield.specs.FourElements.{sums, products, entry, four_elements}
 use Rattle.fourfield.specs.TableLaws.{law_of_one, law_of_two, law_of_three, closed_below, entry_outside, entry_below}
 
@@ -40,7 +40,7 @@ ring = record {
   minus_plus = law_of_two (λ a b. entry sums (entry sums a b) b) (λ a b. a) refl;
 }
 
-inverses : HasInverses four_elements total ring
+inverses : HasInverses four_elements
 inverses zero nonzero h = absurd (nonzero refl)
 inverses (suc zero) nonzero h = (1, lit≤ tt, refl)
 inverses (suc (suc zero)) nonzero h = (3, lit≤ tt, refl)

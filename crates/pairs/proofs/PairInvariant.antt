@@ -6,9 +6,11 @@ use Rattle.std.proofs.lemmas.Bool.{cond_both, eqb-true, eqb-false}
 use Rattle.algebra.specs.Limits.{longest_sequence, coefficients}
 use Rattle.algebra.specs.Meaning.{Arithmetic, Meaning}
 use Rattle.algebra.specs.Laws.{Laws}
+use Rattle.algebra.specs.Polynomial.{AllElements}
 use Rattle.algebra.specs.Realisation.{Minimal}
-use Rattle.algebra.proofs.Coefficients.{InField, in_field}
-use Rattle.algebra.proofs.PairSteps.{Fitting, Kept, Combined, starts_fitting, starts_kept, passes, keeps, stays, grows, minimal}
+use Rattle.algebra.specs.PairSteps.{Fitting, Kept, Combined}
+use Rattle.algebra.proofs.Coefficients.{all_elements}
+use Rattle.algebra.proofs.PairSteps.{starts_fitting, starts_kept, passes, keeps, stays, grows, minimal}
 use Rattle.pairs.specs.Poly.{coeff, constant, combined}
 use Rattle.pairs.specs.MinimalPair.{start, state_after, stepped, passed, changed, updated, discrepancy, Counted, OfElements}
 use Rattle.pairs.specs.declared.poly.Poly.{Poly}
@@ -32,7 +34,7 @@ zeros : (j : ℕ) → coeff (constant 0) j ≡ 0
 zeros zero = constant_is 0
 zeros (suc j) = above_constant 0 (suc j) (omega arith)
 
-module _ {meaning : Meaning} (laws : Laws meaning) (s : List ℕ) (s-in : InField meaning.arithmetic s) where
+module _ {meaning : Meaning} (laws : Laws meaning) (s : List ℕ) (s-in : AllElements meaning.arithmetic s) where
   abbrev A : Arithmetic
   A = meaning.arithmetic
 
@@ -105,6 +107,6 @@ module _ {meaning : Meaning} (laws : Laws meaning) (s : List ℕ) (s-in : InFiel
 pub minimal_after : {meaning : Meaning} → Laws meaning → (s : List ℕ) → OfElements meaning.arithmetic s → length s ≤ longest_sequence →
     MinimalState meaning.arithmetic s (state_after meaning.arithmetic s (length s))
 minimal_after laws s elements short =
-    let s-in = in_field laws.total s elements in
+    let s-in = all_elements laws.total s elements in
     let h = holds laws s s-in (length s) short in
     minimal laws s s-in _ h.kept_degree _ _ _ _ _ h.fitting h.kept h.behind

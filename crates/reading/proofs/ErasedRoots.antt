@@ -7,16 +7,17 @@ use Rattle.std.proofs.lemmas.List.FromFn.{get_or-map-range_with_len, length-map-
 use Rattle.std.proofs.lemmas.Bool.{cases_lt, cases_eq, eqb-true, eq-eqb, true≢false, false≢true}
 use Rattle.algebra.specs.Meaning.{Arithmetic, Meaning}
 use Rattle.algebra.specs.Places.{Member, failures, failing}
-use Rattle.algebra.specs.Polynomial.{annihilator, act}
+use Rattle.algebra.specs.Polynomial.{AllElements, annihilator, act}
 use Rattle.algebra.specs.Theorems.{noted_sum, DistinctPlaces}
 use Rattle.algebra.specs.ErrorLocators.{agrees, errors, modified_sum, FitsModified}
 use Rattle.algebra.specs.Realisation.{Degree, Fits, Minimal}
 use Rattle.algebra.proofs.Counts.{failing_only, distinct_failing, length_failing, failures_two}
 use Rattle.algebra.proofs.Lengths.{length_annihilator, annihilator_elements, act_element}
-use Rattle.algebra.proofs.Numbers.{annihilator_monic, act_applied}
+use Rattle.algebra.proofs.Numbers.{annihilator_monic}
 use Rattle.algebra.proofs.Decoding.{error_locator, error_roots, few_roots}
-use Rattle.algebra.proofs.Coefficients.{InField, in_field}
-use Rattle.algebra.proofs.Terms.{act_cong, applied_take}
+use Rattle.algebra.proofs.Coefficients.{all_elements}
+use Rattle.algebra.proofs.Terms.{act_cong}
+use Rattle.algebra.proofs.Applied.{applied_take, act_applied}
 use Rattle.codes.specs.Code.{Code}
 use Rattle.codes.specs.Checked.{Checked}
 use Rattle.codes.specs.Cells.{blank_cell, blanks}
@@ -85,20 +86,20 @@ module _ (m : Meaning) (code : Code) (checked : Checked m code) (cells : List Ce
         ∙ act_cong A (annihilator A (map a E)) _ _ k
         (λ i h. sym (noted_sum_is checked cells long (k + i) (omega (arith, length_annihilator A (map a E), length-map E a, length_blank_places cells))))
 
-    pub T_elements : InField A T
-    T_elements = in_field checked.laws.total T (λ i below. subst (λ (x : ℕ). x < A.size) (sym (T-is i below)) (act_element checked.laws.total (annihilator A (map a E)) _ i))
+    pub T_elements : AllElements A T
+    T_elements = all_elements checked.laws.total T (λ i below. subst (λ (x : ℕ). x < A.size) (sym (T-is i below)) (act_element checked.laws.total (annihilator A (map a E)) _ i))
 
-    fits_from : (p : List ℕ) (e : ℕ) → length p ≡ suc e → InField A p → FitsModified A n code.rows a h u E p → Fits A T p e
+    fits_from : (p : List ℕ) (e : ℕ) → length p ≡ suc e → AllElements A p → FitsModified A n code.rows a h u E p → Fits A T p e
     fits_from p e size elements modified k within =
-        sym (act_applied checked.laws p T elements T_elements e k (omega arith))
+        sym (act_applied checked.laws.total checked.laws.ring p T elements T_elements e k (omega arith))
         ∙ act_cong A p (number_at T) (modified_sum A n a h E u) k (λ i h. T_modified (k + i) (omega arith))
         ∙ modified k (omega (arith, length_blank_places cells))
 
-    fits_to : (p : List ℕ) (e : ℕ) → length p ≡ suc e → InField A p → Fits A T p e → FitsModified A n code.rows a h u E p
+    fits_to : (p : List ℕ) (e : ℕ) → length p ≡ suc e → AllElements A p → Fits A T p e → FitsModified A n code.rows a h u E p
     fits_to p e size elements fits k within =
         let below : k + e < length T = omega (arith, length_blank_places cells) in
         sym (act_cong A p (number_at T) (modified_sum A n a h E u) k (λ i h. T_modified (k + i) (omega arith)))
-        ∙ act_applied checked.laws p T elements T_elements e k (omega arith)
+        ∙ act_applied checked.laws.total checked.laws.ring p T elements T_elements e k (omega arith)
         ∙ fits k below
 
     module _ (d : ℕ) (f w : List ℕ) (minimal : Minimal A T d f w) where
@@ -111,7 +112,7 @@ module _ (m : Meaning) (code : Code) (checked : Checked m code) (cells : List Ce
       p_long : length p ≡ suc d
       p_long = length-take-le (suc d) f within
 
-      p_elements : InField A p
+      p_elements : AllElements A p
       p_elements k = ⊎_elim (λ lt. subst (λ (x : ℕ). x < A.size) (sym (get_or-take (suc d) f k 0 lt)) (minimal.degree.elements k)) (λ past. let zero = get_or_past p k 0 (omega (arith, p_long)) in let some = checked.laws.total.smallest in omega arith) (cases_lt k (suc d))
 
       p_fits : Fits A T p d

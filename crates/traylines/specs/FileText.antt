@@ -1,38 +1,43 @@
 -- The lines of a whole file. Assumes nothing.
-use Rattle.std.specs.Prelude.{◌≡◌, ℕ, true, false, List, [], ◌∷◌, ◌++◌, codes}
+use Rattle.std.specs.Prelude.{◌≡◌, ℕ, ◌+◌, List, [], ◌∷◌, ◌++◌, length, Some, None, Option, codes}
+use Rattle.trayfile.specs.Entries.{Entry, entry_bytes}
+use Rattle.trayfile.specs.Files.{File}
+use Rattle.trayfile.specs.declared.fault.Fault.{Fault}
+use Rattle.trayfile.specs.declared.kind.Kind.{Kind}
+use Rattle.trayfile.specs.declared.kind.Kind.TheVariants.{Card, Cells, Note}
 use Rattle.traylines.specs.Lines.{read_bytes, lost_text, end_text, fault_text}
-use Rattle.traylines.specs.FileLines.{Fresh, Stepped, goes_on}
-use Rattle.traylines.specs.declared.file_lines.FileLines.{FileLines}
+use Rattle.traylines.specs.FileLines.{CellsTold, counts_with}
+use Rattle.traylines.specs.declared.line.EndLine.{EndLine}
 use Rattle.traylines.specs.declared.file_lines.Step.{Step}
-use Rattle.traylines.specs.declared.file_lines.Step.TheVariants.{Silent, Read, Lost, End, Fault}
+use Rattle.traylines.specs.declared.file_lines.Step.TheVariants as step
 
 -- the line of what is told, and its end; a card or a note has none
 abbrev pub step_text : Step → List ℕ
-step_text Silent = []
-step_text (Read place word) = read_bytes place word.counts.wrong word.counts.blank word.letters ++ codes "\n"
-step_text (Lost line) = lost_text line ++ codes "\n"
-step_text (End line) = end_text line ++ codes "\n"
-step_text (Fault line) = fault_text line ++ codes "\n"
+step_text step.Silent = []
+step_text (step.Read place word) = read_bytes place word.counts.wrong word.counts.blank word.letters ++ codes "\n"
+step_text (step.Lost line) = lost_text line ++ codes "\n"
+step_text (step.End line) = end_text line ++ codes "\n"
+step_text (step.Fault line) = fault_text line ++ codes "\n"
 
--- the lines of all that is told, one after another
-abbrev pub steps_text : List Step → List ℕ
-steps_text [] = []
-steps_text (told ∷ later) = step_text told ++ steps_text later
+-- The text of a record at a place and of all that comes after it. A card is the last one for what comes after it, a note
+-- tells nothing, and cells tell their line, under the last card, and are counted.
+abbrev pub RecordText : Kind → ℕ → List ℕ → List ℕ → EndLine → (List ℕ → EndLine → List ℕ → Type 0) → List ℕ → Type 0
+RecordText Card place body card counts Later text = Later body counts text
+RecordText Note place body card counts Later text = Later card counts text
+RecordText Cells place body card counts Later text =
+    (told : Step) × (later : List ℕ) × CellsTold place card body told × (text ≡ step_text told ++ later) × Later card (counts_with counts told) later
 
--- These steps are told from one place of the file to another, and after each the file has more to tell.
-abbrev pub ToldFrom : FileLines → List Step → FileLines → Type 0
-ToldFrom before [] after = before ≡ after
-ToldFrom before (told ∷ later) after = (next : FileLines) × Stepped before told next × (goes_on told ≡ true) × ToldFrom next later after
+-- The text of these records, the first of which stands at the place, and of the end or the fault after them; the body of
+-- the last card before them, and the counts so far, come first.
+abbrev pub RecordsText : List ℕ → EndLine → ℕ → List Entry → Option Fault → List ℕ → Type 0
+RecordsText card counts place [] None text = text ≡ step_text (step.End counts)
+RecordsText card counts place [] (Some fault) text = text ≡ step_text (step.Fault (record { fault = fault }))
+RecordsText card counts place (e ∷ es) ending text =
+    RecordText e.kind place e.body card counts (λ last so_far later. RecordsText last so_far (place + length (entry_bytes e)) es ending later) text
 
--- The text of a file: the lines of all that is told of it from its start, up to the end or the fault that ends it.
+-- The text of a file: the lines of the records that it has, up to its end or the fault that ends it.
 pub record FileText (file text : List ℕ) : Type 0 where
-  pub first : FileLines
-  pub fresh : Fresh file first
-  pub steps : List Step
-  pub before : FileLines
-  pub told_before : ToldFrom first steps before
-  pub last : Step
-  pub after : FileLines
-  pub step : Stepped before last after
-  pub ends : goes_on last ≡ false
-  pub lines : text ≡ steps_text steps ++ step_text last
+  pub records : List Entry
+  pub ending : Option Fault
+  pub has : File file records ending
+  pub lines : RecordsText [] (record { read = 0; lost = 0 }) 0 records ending text

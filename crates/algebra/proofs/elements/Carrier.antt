@@ -9,7 +9,7 @@ use Rattle.algebra.specs.Meaning.{Arithmetic, Meaning}
 use Rattle.algebra.specs.Laws.{Total, RingLaws, Laws}
 use Rattle.algebra.specs.Places.{Member}
 use Rattle.algebra.specs.Power.{times_power, power, sum}
-use Rattle.algebra.specs.Polynomial.{negate, evaluate, plus_linear, annihilator, quotient_linear, act, or_zero}
+use Rattle.algebra.specs.Polynomial.{AllElements, negate, evaluate, plus_linear, annihilator, quotient_linear, act, or_zero}
 use Rattle.algebra.specs.Theorems.{cofactor}
 use Rattle.algebra.proofs.Terms.{sum_cong, act_cong}
 use Rattle.algebra.proofs.RingFacts.{plus_negate}
@@ -71,9 +71,6 @@ module _ {A : Arithmetic} (W : Lawful A) where
       by_cases : (d : Dec (x < A.size)) → (lift_by x d).0 ≡ x
       by_cases (yes _) = refl
       by_cases (no n) = absurd (n h)
-
-  pub lift_value : (x : Element A) → lift x.0 ≡ x
-  lift_value x = element_path A (value_lift x.0 x.1)
 
   -- each definition on numbers, at the numbers of elements
   pub zero_is : 𝟘.0 ≡ 0
@@ -162,7 +159,7 @@ module _ {A : Arithmetic} (W : Lawful A) where
   times_power_up x a k hx ha = ap₂ (λ y b. times_power A y b k) (sym (value_lift x hx)) (sym (value_lift a ha))
       ∙ times_power_is (lift x) (lift a) k
 
-  pub coefficients_up : (p : List ℕ) → ((k : ℕ) → get_or p k 0 < A.size) → p ≡ values (map lift p)
+  pub coefficients_up : (p : List ℕ) → AllElements A p → p ≡ values (map lift p)
   coefficients_up [] h = refl
   coefficients_up (c ∷ p) h = ap₂ ◌∷◌ (sym (value_lift c (h 0))) (coefficients_up p (λ k. h (suc k)))
 

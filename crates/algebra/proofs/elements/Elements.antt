@@ -5,7 +5,7 @@ use Rattle.algebra.specs.Meaning.{Arithmetic, Meaning}
 use Rattle.algebra.specs.Laws.{Laws}
 use Rattle.algebra.specs.Places.{Member, member, failures}
 use Rattle.algebra.specs.Power.{times_power}
-use Rattle.algebra.specs.Polynomial.{evaluate, annihilator, divide}
+use Rattle.algebra.specs.Polynomial.{AllElements, evaluate, annihilator, divide}
 use Rattle.algebra.specs.Theorems
 use Rattle.algebra.proofs.Places.{member_only, member_if}
 use Rattle.algebra.proofs.rings.Ring.{zero?}
@@ -40,11 +40,11 @@ module _ {A : Arithmetic} (W : Lawful A) where
   multipliers {h = h} M i below e = M.nonzero i below (lift_zero (h i) (M.element i below) e)
 
   -- a polynomial's coefficients and values
-  pub coefficients : (p : List ℕ) → ((k : ℕ) → get_or p k 0 < A.size) → (k : ℕ) →
+  pub coefficients : (p : List ℕ) → AllElements A p → (k : ℕ) →
       get_or p k 0 ≡ (Polynomials.coeff (ring W) (map (lift W) p) k).0
   coefficients p elements k = ap (λ q. get_or q k 0) (Carrier.coefficients_up W p elements) ∙ Carrier.coefficient_is W (map (lift W) p) k
 
-  pub evaluation : (p : List ℕ) → ((k : ℕ) → get_or p k 0 < A.size) → (x : ℕ) → x < A.size →
+  pub evaluation : (p : List ℕ) → AllElements A p → (x : ℕ) → x < A.size →
       evaluate A p x ≡ (Polynomials.eval (ring W) (map (lift W) p) (lift W x)).0
   evaluation p elements x h = ap₂ (evaluate A) (Carrier.coefficients_up W p elements) (sym (value_lift W x h))
       ∙ Carrier.evaluate_is W (map (lift W) p) (lift W x)

@@ -150,9 +150,6 @@ module _ {A : Type 0} (K : AbstractField A) where
   pub inv_⊗_⊗ : (a b : A) → (a ≡ 𝟘 → ⊥) → K.inv a ⊗ (a ⊗ b) ≡ b
   inv_⊗_⊗ a b h = sym (⊗_assoc K.ring (K.inv a) a b) ∙ simp (inv_⊗ a h, 𝟙_⊗)
 
-  pub ⊗_inv_⊗ : (a b : A) → (a ≡ 𝟘 → ⊥) → a ⊗ (K.inv a ⊗ b) ≡ b
-  ⊗_inv_⊗ a b h = sym (⊗_assoc K.ring a (K.inv a) b) ∙ simp (⊗_inv a h, 𝟙_⊗)
-
   -- a factor other than 0 may be dropped
   pub ⊗_cancel : (a b c : A) → (a ≡ 𝟘 → ⊥) → a ⊗ b ≡ a ⊗ c → b ≡ c
   ⊗_cancel a b c h e = sym (inv_⊗_⊗ a b h) ∙ ap (λ x. K.inv a ⊗ x) e ∙ inv_⊗_⊗ a c h
@@ -167,9 +164,6 @@ module _ {A : Type 0} (K : AbstractField A) where
 
   pub ⊗_nonzero : (a b : A) → (a ≡ 𝟘 → ⊥) → (b ≡ 𝟘 → ⊥) → a ⊗ b ≡ 𝟘 → ⊥
   ⊗_nonzero a b h k e = k (zero_factor a b h e)
-
-  pub inv_nonzero : (a : A) → (a ≡ 𝟘 → ⊥) → K.inv a ≡ 𝟘 → ⊥
-  inv_nonzero a h e = K.one_not_zero (sym (⊗_inv a h) ∙ ap (λ x. a ⊗ x) e ∙ ⊗_𝟘 K.ring a)
 
   pub difference_nonzero : (a b : A) → (a ≡ b → ⊥) → a ⊕ ⊖ b ≡ 𝟘 → ⊥
   difference_nonzero a b h e = h (difference_zero K.ring a b e)

@@ -1,9 +1,9 @@
 use Rattle.std.proofs.Common.{[], ◌∷◌, ◌++◌, refl, sym, subst}
 use Rattle.std.proofs.KnownBytes.{Appends-nil, Appends-trans}
 use Rattle.std.specs.Io.KnownBytes.{Appends}
-use Rattle.traylines.specs.FileText.{step_text, steps_text}
+use Rattle.traylines.specs.FileText.{step_text}
 use Rattle.traylines.proofs.Advances.{fewer_stepped}
-use Rattle.traylines.proofs.FileTexts.{told_more, text_more}
+use Rattle.traylines.proofs.FileTexts.{steps_text, told_more, text_more, file_text}
 use Rattle.traylines.proofs.report.write_lines.Goals as goal
 
 pub loop-step-init : goal.loop-step-init
@@ -28,17 +28,6 @@ returns-then-not-goes_on g c =
     let inv = c.loop-step.invariant in
     let told = c.step-step.result in (
       steps_text inv.1 ++ step_text told,
-      record {
-        first = inv.0;
-        fresh = inv.2;
-        steps = inv.1;
-        before = c.loop-step.lines;
-        told_before = inv.3;
-        last = told;
-        after = c.step-step.new.self;
-        step = c.step-step.ensures;
-        ends = sym c.if-not-goes_on.ensures;
-        lines = refl;
-      },
+      file_text c.args.file.now inv.0 inv.1 c.loop-step.lines told c.step-step.new.self inv.2 inv.3 c.step-step.ensures (sym c.if-not-goes_on.ensures),
       Appends-trans _ _ _ (steps_text inv.1) (step_text told) inv.4 c.in_ok-write_step.ensures,
     )

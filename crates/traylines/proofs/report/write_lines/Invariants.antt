@@ -1,7 +1,7 @@
 use Rattle.std.proofs.Common.{◌-◌, List, length}
 use Rattle.std.specs.Io.KnownBytes.{Appends}
 use Rattle.traylines.specs.FileLines.{Fresh}
-use Rattle.traylines.specs.FileText.{ToldFrom, steps_text}
+use Rattle.traylines.proofs.FileTexts.{ToldFrom, steps_text}
 use Rattle.traylines.specs.declared.file_lines.FileLines.{FileLines}
 use Rattle.traylines.specs.declared.file_lines.Step.{Step}
 use Rattle.traylines.proofs.report.write_lines.Given as goal

@@ -80,7 +80,7 @@ loop-cell-preserved-then-is_none g c =
           (λ k h. c.add_powers.ensures k h
           ∙ ap (λ (A : Arithmetic). A.plus (get_or sums k 0) (times_power A c.mul-weighted.result c.in-Some.locator.now k)) B-is
           ∙ ap₂ (λ x a. A.plus (get_or sums k 0) (times_power A x a k)) x-is a-is)
-          (λ k. syndrome_set_noted card.checked.laws code mixed j (get_or word j 0) k (omega (arith, here)) blank),
+          (λ k. syndrome_set_noted card.checked.laws.total card.checked.laws.ring code mixed j (get_or word j 0) k (omega (arith, here)) blank),
     )
 
 pub loop-cell-preserved : goal.loop-cell-preserved

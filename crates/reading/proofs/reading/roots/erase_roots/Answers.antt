@@ -61,7 +61,7 @@ loop-j-preserved g c =
                 ∙ ap (λ (A : Arithmetic). A.plus (get_or sums k 0) (times_power A w.sub.result b k)) B-is
                 ∙ ap₂ (λ x a. A.plus (get_or sums k 0) (times_power A x a k)) x-is b-is)
                 (λ k. ap (λ (l : List Cell). syndrome A code l k) blanked
-                ∙ syndrome_set_blank card.checked.laws code cells j w.in-Some.letter k (omega arith) w.in-Some.is (card.checked.locators.element j (omega (arith, c.requires.long)))),
+                ∙ syndrome_set_blank card.checked.laws.total card.checked.laws.ring code cells j w.in-Some.letter k (omega arith) w.in-Some.is (card.checked.locators.element j (omega (arith, c.requires.long)))),
           ))
       | in-Some+else-value_at-eq0 w ↦
           (let stays = sym (erased_other A p code.locators before j (ne_eqb _ 0 (λ e. w.if-value_at-eq0.false (w.value_at.ensures ∙ value ∙ e)))) in (
