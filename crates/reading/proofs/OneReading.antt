@@ -22,7 +22,7 @@ use Rattle.reading.proofs.Decoding.{left, decoded}
 
 -- two outcomes are the same
 module _ (A : Arithmetic) (code : Code) (cells : List Cell) (before : List ℕ) where
-  same : (after other : List ℕ) (r s : Result Counts ReadRefusal) → Reading A code cells before after r → Reading A code cells before other s → (other ≡ after) × (s ≡ r)
+  pub same : (after other : List ℕ) (r s : Result Counts ReadRefusal) → Reading A code cells before after r → Reading A code cells before other s → (other ≡ after) × (s ≡ r)
   same after other (Ok a) (Ok b) h k =
       let equal = h.2 other k.1 in
       (equal, ap₂ (λ (w n : ℕ). Ok (record { wrong = w; blank = n })) (k.3 ∙ ap (wrong cells) equal ∙ sym h.3) (k.4 ∙ sym h.4))

@@ -1,16 +1,15 @@
 -- The lines of the steps are the text of the file's records. Assumes nothing.
-use Rattle.std.proofs.Common.{◌≡◌, ℕ, ◌+◌, true, false, List, [], ◌∷◌, ◌++◌, map, length, Some, None, Ok, Err, Option, Result, refl, sym, ap, ◌∙◌, subst, append-nil, append_assoc}
+use Rattle.std.proofs.Common.{◌≡◌, ℕ, ◌+◌, true, false, List, [], ◌∷◌, ◌++◌, map, length, Some, None, Ok, Err, Option, refl, sym, ap, ◌∙◌, subst, append-nil, append_assoc}
 use mathlib.Core.Path.{subst⁻¹}
 use Rattle.std.proofs.lemmas.Bool.{true≢false}
 use Rattle.trayfile.specs.Entries.{Entry, entry_of, entry_bytes}
-use Rattle.trayfile.specs.Files.{File}
-use Rattle.trayfile.specs.Readers.{Next, Run, EveryRun, Opened}
+use Rattle.trayfile.specs.Readers.{Next, Run}
 use Rattle.trayfile.specs.declared.fault.Fault.{Fault}
 use Rattle.trayfile.specs.declared.record.Record.{Record}
 use Rattle.trayfile.specs.declared.record.Record.TheVariants.{Card, Cells, Note}
 use Rattle.trayfile.specs.declared.reader.TrayReader.{TrayReader}
 use Rattle.trayfile.proofs.Runs.{every_run}
-use Rattle.traylines.specs.FileLines.{Fresh, Tells, Stepped, goes_on, counts_with}
+use Rattle.traylines.specs.FileLines.{Fresh, Tells, Stepped, goes_on}
 use Rattle.traylines.specs.FileText.{FileText, RecordsText, step_text}
 use Rattle.traylines.specs.declared.line.EndLine.{EndLine}
 use Rattle.traylines.specs.declared.file_lines.FileLines.{FileLines}

@@ -1,3 +1,4 @@
 pub mod Advances
 pub mod LastCards
 mod FileTexts
+mod OneText

@@ -41,3 +41,7 @@ pub record FileText (file text : List ℕ) : Type 0 where
   pub ending : Option Fault
   pub has : File file records ending
   pub lines : RecordsText [] (record { read = 0; lost = 0 }) 0 records ending text
+
+-- a file has one text
+abbrev pub OneText : Type 0
+OneText = (file a b : List ℕ) → FileText file a → FileText file b → a ≡ b

@@ -1,7 +1,7 @@
 // Writes the lines of a whole file.
 ghost use Rattle.std.specs.Prelude.{◌≡◌, List, ℕ, OnOk};
 ghost use Rattle.std.specs.Io.KnownBytes.{Appends};
-ghost use Rattle.traylines.specs.FileText.{FileText, step_text};
+ghost use Rattle.traylines.specs.FileText.{FileText, OneText, step_text};
 
 use crate::file_lines::{FileLines, Step};
 use crate::line::ReadLine;
@@ -26,9 +26,10 @@ fn read_line(place: usize, word: &WordRead) -> ReadLine<'_>
     }
 }
 
-// Writes the line of each step of the file, up to its end or the fault that ends it.
+// Writes the text of the file, which has only one: the line of each of its records, up to its end or the fault that ends it.
 pub fn write_lines<W: Write>(out: &mut W, file: &[u8]) -> io::Result<()>
-    ensures { OnOk result ((text : List ℕ) × FileText file.now text × Appends (W.contents out.old) (W.contents out.new) text) }
+    ensures text { OnOk result ((text : List ℕ) × FileText file.now text × Appends (W.contents out.old) (W.contents out.new) text) }
+    ensures one { OneText }
 {
     let mut lines = FileLines::new(file);
     loop {
