@@ -1,2 +1,5 @@
 pub mod WorkedSums
 pub mod Texts
+pub mod AlphabetSizes
+pub mod CodeCases
+pub mod Journals

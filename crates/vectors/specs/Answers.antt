@@ -1,7 +1,8 @@
 -- The text that answers a case. Assumes nothing.
-use Rattle.std.specs.Prelude.{◌≡◌, ◌⊎◌, ℕ, ◌+◌, List, [], ◌∷◌, ◌++◌, Ok, Err, Result, replicate, codes, decimal, flat_map, ◌≢◌, All}
+use Rattle.std.specs.Prelude.{◌≡◌, ◌⊎◌, ℕ, zero, suc, ◌+◌, List, [], ◌∷◌, ◌++◌, Ok, Err, Result, length, replicate, codes, decimal, flat_map, ◌≢◌, All}
 use Rattle.std.specs.List.{range_with_len}
 use Rattle.algebra.specs.Meaning.{Arithmetic, Meaning}
+use Rattle.algebra.specs.Alphabet.{Alphabet}
 use Rattle.algebra.specs.Limits.{coefficients}
 use Rattle.codes.specs.Code.{Code}
 use Rattle.codes.specs.Checked.{Checked}
@@ -9,11 +10,13 @@ use Rattle.codes.specs.Cards.{CardRefused, card_number}
 use Rattle.codes.specs.declared.card_cause.CardCause.{CardCause}
 use Rattle.codes.specs.Sums.{Summed, sums_number}
 use Rattle.codes.specs.declared.syndromes.SumsRefusal.{SumsRefusal}
+use Rattle.filling.specs.Encodings.{Encoded, encode_number}
+use Rattle.filling.specs.declared.encode_refusal.EncodeRefusal.{EncodeRefusal}
 use Rattle.codes.specs.WordText.{letter_text, word_text}
 use Rattle.pairs.specs.MinimalPair.{Realised, realise_number}
 use Rattle.pairs.specs.declared.minimal_pair.RealiseRefusal.{RealiseRefusal}
 use Rattle.vectors.specs.Degrees.{UpToDegree}
-use Rattle.vectors.specs.Parts.{part, cells_in, code_in}
+use Rattle.vectors.specs.Parts.{part, numbers_in, cells_in, code_in}
 use Rattle.vectors.specs.InverseText.{inverse_text}
 use Rattle.vectors.specs.Fold.{folded}
 
@@ -48,6 +51,17 @@ inverses_text meaning = codes "inverses" ++ flat_map (λ a. inverse_text (meanin
 abbrev pub products_text : Arithmetic → List ℕ
 products_text A = codes "products" ++ flat_map (λ a. letter_text (folded A a A.size)) (range_with_len 0 A.size)
 
+-- the alphabet sizes below n, in order
+unfoldable pub AlphabetSizes : Arithmetic → ℕ → List ℕ → Type 0
+AlphabetSizes A zero sizes = sizes ≡ []
+AlphabetSizes A (suc n) sizes =
+    (smaller : List ℕ) × AlphabetSizes A n smaller
+    × ((Alphabet A n × (sizes ≡ smaller ++ n ∷ [])) ⊎ ((Alphabet A n → ⊥) × (sizes ≡ smaller)))
+
+-- the alphabet sizes from 0 to q; above q there are none
+abbrev pub AdmitsText : Arithmetic → List ℕ → Type 0
+AdmitsText A text = (sizes : List ℕ) × AlphabetSizes A (A.size + 1) sizes × (text ≡ codes "admits" ++ word_text sizes)
+
 abbrev pub SumsText : Result (Unit {0}) SumsRefusal → List ℕ → List ℕ → Type 0
 SumsText (Ok done) sums text = text ≡ codes "sums" ++ word_text sums
 SumsText (Err refusal) sums text = RefusedText (sums_number refusal) text
@@ -70,10 +84,34 @@ RealiseAnswered A sequence text =
     (f : List ℕ) × (w : List ℕ) × (answer : Result ℕ RealiseRefusal)
     × Realised A sequence (replicate coefficients 0) (replicate coefficients 0) f w answer × RealiseText answer f w text
 
+-- the first rule that the code breaks is told
+abbrev pub CardRefusedText : Meaning → Code → List ℕ → Type 0
+CardRefusedText m code text = (cause : CardCause) × CardRefused m code cause × RefusedText (card_number cause) text
+
 -- the code is checked, or the first rule that it breaks is told
 abbrev pub CardText : Meaning → Code → List ℕ → Type 0
-CardText m code text = (Checked m code × (text ≡ codes "card granted")) ⊎ ((cause : CardCause) × CardRefused m code cause × RefusedText (card_number cause) text)
+CardText m code text = (Checked m code × (text ≡ codes "card granted")) ⊎ CardRefusedText m code text
 
 -- of the letters, the rows, and a text of locators; multipliers
 abbrev pub CardAnswered : Meaning → List ℕ → List ℕ → List ℕ → Type 0
 CardAnswered m numbers rest text = (letters : ℕ) × (rows : ℕ) × (numbers ≡ letters ∷ rows ∷ []) × CardText m (code_in letters rows rest) text
+
+abbrev pub EncodeText : Result (Unit {0}) EncodeRefusal → List ℕ → List ℕ → Type 0
+EncodeText (Ok done) word text = text ≡ codes "word" ++ word_text word
+EncodeText (Err refusal) word text = RefusedText (encode_number refusal) text
+
+-- the encoding of the data in a buffer of a cell for each locator, or the refusal
+abbrev pub EncodedText : Meaning → Code → List ℕ → List ℕ → Type 0
+EncodedText m code letters text =
+    (word : List ℕ) × (answer : Result (Unit {0}) EncodeRefusal)
+    × Encoded m code letters (replicate (length code.locators) 0) word answer × EncodeText answer word text
+
+-- of a code, and data: the code is checked and the data are encoded, or the first rule that it breaks is told
+abbrev pub CardEncodes : Meaning → Code → List ℕ → List ℕ → Type 0
+CardEncodes m code letters text = (Checked m code × EncodedText m code letters text) ⊎ CardRefusedText m code text
+
+-- of the letters, the rows, and a text of locators; multipliers; data
+abbrev pub EncodeAnswered : Meaning → List ℕ → List ℕ → List ℕ → Type 0
+EncodeAnswered m numbers rest text =
+    (letters : ℕ) × (rows : ℕ) × (numbers ≡ letters ∷ rows ∷ [])
+    × CardEncodes m (code_in letters rows rest) (numbers_in (part 2 rest)) text

@@ -4,3 +4,5 @@ pub mod Fold
 pub mod Parts
 pub mod Answers
 pub mod InverseText
+pub mod ReadAnswers
+pub mod LineAnswers

@@ -1,7 +1,9 @@
 // The cases and their answers.
 ghost use Rattle.std.specs.Prelude.{◌≡◌, IfOk, string_bytes};
-ghost use Rattle.vectors.specs.Answers.{RefusedText, taken_text, ArithmeticText, inverses_text, products_text, SumsAnswered, RealiseAnswered, CardAnswered};
-ghost use Rattle.vectors.specs.Parts.{numbers_in};
+ghost use Rattle.vectors.specs.Answers.{RefusedText, taken_text, ArithmeticText, inverses_text, products_text, SumsAnswered, RealiseAnswered, CardAnswered, AdmitsText, EncodeAnswered};
+ghost use Rattle.vectors.specs.LineAnswers.{LineRefusedText, LineAnswered};
+ghost use Rattle.vectors.specs.ReadAnswers.{notes_and_read, LastReadText, ReadAnswered};
+ghost use Rattle.vectors.specs.Parts.{numbers_in, cells_in};
 
 use crate::code_case::CodeCase;
 use crate::fold::folded_products;
@@ -150,7 +152,9 @@ fn products<F: LetteredField>(case: Case<'_>, field: &F) -> anyhow::Result<Strin
 }
 
 // The alphabet sizes from 0 to one above q that are admitted.
-fn admits<F: LetteredField>(case: Case<'_>, field: &F) -> anyhow::Result<String> {
+fn admits<F: LetteredField>(case: Case<'_>, field: &F) -> anyhow::Result<String>
+    ensures { IfOk result (λ text. AdmitsText (F.Field.meaning field.now).arithmetic (string_bytes text)) }
+{
     let mut out = format!(in case.heap; "admits")?;
     for letters in 0..=field.size().saturating_add(1) {
         if field.admits(letters) {
@@ -222,6 +226,7 @@ fn card_case<F: LetteredField + Drop>(case: Case<'_>, field: F) -> anyhow::Resul
 // letters r; locators; multipliers; data: the codeword that begins with the data, in a buffer of as many cells.
 fn encode_case<F: LetteredField + Drop>(case: Case<'_>, field: F) -> anyhow::Result<String>
     requires { F.Field.accepted field }
+    ensures { IfOk result (λ text. EncodeAnswered (F.Field.meaning field) case.entry.numbers.now case.entry.rest.now (string_bytes text)) }
 {
     let heap = case.heap;
     let [letters, rows] = case.numbers else {
@@ -247,6 +252,7 @@ fn encode_case<F: LetteredField + Drop>(case: Case<'_>, field: F) -> anyhow::Res
 // letters r; locators; multipliers; cells: a tag with these cells noted is read.
 fn read_case<F: LetteredField + Drop>(case: Case<'_>, field: F) -> anyhow::Result<String>
     requires { F.Field.accepted field }
+    ensures { IfOk result (λ text. ReadAnswered (F.Field.meaning field) case.entry.numbers.now case.entry.rest.now (string_bytes text)) }
 {
     let heap = case.heap;
     let [letters, rows] = case.numbers else {
@@ -270,7 +276,9 @@ fn read_case<F: LetteredField + Drop>(case: Case<'_>, field: F) -> anyhow::Resul
 
 // The calls that note the cells of a text, and a read into a buffer of `length` numbers. The library allocates nothing, so a list of
 // calls is a program's.
-fn note_calls(heap: Global, text: &str, length: usize) -> anyhow::Result<Vec<Call<'static>>> {
+fn note_calls(heap: Global, text: &str, length: usize) -> anyhow::Result<Vec<Call<'static>>>
+    ensures { IfOk result (λ calls. calls.items ≡ notes_and_read (cells_in text.now) length) }
+{
     let cells = read_cells(heap, text)?;
     let mut calls = Vec::new(heap);
     for (j, cell) in cells.iter().enumerate() {
@@ -285,7 +293,9 @@ fn note_calls(heap: Global, text: &str, length: usize) -> anyhow::Result<Vec<Cal
     Ok(calls)
 }
 
-fn last_read(heap: Global, journal: &[Event<'_>]) -> anyhow::Result<String> {
+fn last_read(heap: Global, journal: &[Event<'_>]) -> anyhow::Result<String>
+    ensures { IfOk result (λ text. LastReadText journal.now (string_bytes text)) }
+{
     let Some(
         Event::Read {
             length,
@@ -310,7 +320,9 @@ fn last_read(heap: Global, journal: &[Event<'_>]) -> anyhow::Result<String> {
 }
 
 // letters cells;marks: the cells that a line of marks stands for.
-fn line_case(heap: Global, argument: &str) -> anyhow::Result<String> {
+fn line_case(heap: Global, argument: &str) -> anyhow::Result<String>
+    ensures { IfOk result (λ text. LineAnswered argument.now (string_bytes text)) }
+{
     let Some((head, marks)) = argument.split_once(';') else {
         bail!("a line has letters, cells and marks")
     };
@@ -326,14 +338,16 @@ fn line_case(heap: Global, argument: &str) -> anyhow::Result<String> {
             };
             Ok(format!(in heap; "line{row}")?)
         }
-        Err(refusal) => {
-            let number = refusal.number();
-            match refusal {
-                LineRefusal::BadMark { place } => Ok(format!(in heap;
-                    "refused {number} {refusal} at {place}"
-                )?),
-                _ => refused(heap, number, refusal),
-            }
-        }
+        Err(refusal) => line_refused(heap, refusal),
+    }
+}
+
+fn line_refused(heap: Global, refusal: LineRefusal) -> anyhow::Result<String>
+    ensures { IfOk result (λ text. LineRefusedText refusal (string_bytes text)) }
+{
+    let told = refused(heap, refusal.number(), refusal)?;
+    match refusal {
+        LineRefusal::BadMark { place } => Ok(format!(in heap; "{told} at {place}")?),
+        _ => Ok(told),
     }
 }

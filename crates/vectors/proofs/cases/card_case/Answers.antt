@@ -1,19 +1,11 @@
-use Rattle.std.proofs.Common.{◌≡◌, ◌≤◌, ◌<◌, ℕ, List, [], ◌∷◌, length, get_or, string_bytes, inl, inr, refl, ap, ◌∙◌, subst, arith}
+use Rattle.std.proofs.Common.{ℕ, string_bytes, inl, inr, ◌∙◌, subst, arith}
 use Rattle.std.proofs.lemmas.Result.{IfOk-weaker}
-use Rattle.codes.specs.Code.{Code, code_with}
+use Rattle.codes.specs.Code.{Code}
 use Rattle.codes.specs.Checked.{Checked}
 use Rattle.codes.specs.Cards.{CardRefused}
 use Rattle.vectors.specs.Answers.{RefusedText}
+use Rattle.vectors.proofs.CodeCases.{two, same_code}
 use Rattle.vectors.proofs.cases.card_case.Goals as goal
-
-two : (xs : List ℕ) → 2 ≤ length xs → length xs < 3 → xs ≡ get_or xs 0 0 ∷ get_or xs 1 0 ∷ []
-two [] long short = absurd (omega (arith, long))
-two (x ∷ []) long short = absurd (omega (arith, long))
-two (x ∷ y ∷ []) long short = refl
-two (x ∷ y ∷ z ∷ zs) long short = absurd (omega (arith, short))
-
-same_code : {a a' b b' : ℕ} {l l' h h' : List ℕ} → a ≡ a' → b ≡ b' → l ≡ l' → h ≡ h' → code_with a b l h ≡ code_with a' b' l' h'
-same_code {a} {a'} {b} {b'} {l} {l'} {h} {h'} p q r s = ap (λ x. code_with x b l h) p ∙ ap (λ x. code_with a' x l h) q ∙ ap (λ x. code_with a' b' x h) r ∙ ap (code_with a' b' l') s
 
 pub returns-in-Ok : goal.returns-in-Ok
 returns-in-Ok g c =

@@ -1,0 +1,59 @@
+-- The text that answers the reading of a tag. Assumes nothing.
+use Rattle.std.specs.Prelude.{◌≡◌, ◌⊎◌, ℕ, ◌+◌, List, [], ◌∷◌, ◌++◌, Some, None, Option, Ok, Err, Result, map, length, take, codes, decimal, flat_map, slice_index_or}
+use Rattle.std.specs.List.{range_with_len}
+use Rattle.algebra.specs.Meaning.{Meaning, Arithmetic}
+use Rattle.codes.specs.Code.{Code}
+use Rattle.codes.specs.Cells.{blank_cell}
+use Rattle.codes.specs.Checked.{Checked}
+use Rattle.codes.specs.WordText.{word_text}
+use Rattle.codes.specs.declared.cell.Cell.{Cell}
+use Rattle.reading.specs.Reading.{read_number}
+use Rattle.reading.specs.declared.read_answer.Counts.{Counts}
+use Rattle.reading.specs.declared.read_answer.ReadRefusal.{ReadRefusal}
+use Rattle.tags.specs.Calls.{call_of}
+use Rattle.tags.specs.Runs.{RunLaw}
+use Rattle.tags.specs.declared.call.Call.{Call}
+use Rattle.tags.specs.declared.call.Call.TheVariants as call
+use Rattle.tags.specs.declared.event.Event.{Event}
+use Rattle.tags.specs.declared.event.Event.TheVariants as event
+use Rattle.vectors.specs.Answers.{RefusedText, CardRefusedText}
+use Rattle.vectors.specs.Parts.{part, cells_in, code_in}
+
+-- the note of a letter at place j, in cell j + 1; none for a blank
+abbrev pub note_of : ℕ → Option ℕ → List Call
+note_of j None = []
+note_of j (Some letter) = call.Note (j + 1) letter ∷ []
+
+abbrev pub note_at : List Cell → ℕ → List Call
+note_at cells j = note_of j (slice_index_or cells j blank_cell).letter
+
+-- a note of each noted cell in order, and a read into `size` numbers
+abbrev pub notes_and_read : List Cell → ℕ → List Call
+notes_and_read cells size = flat_map (note_at cells) (range_with_len 0 (length cells)) ++ call.Read size ∷ []
+
+-- the counts and the word, or the refusal
+abbrev pub ReadText : ℕ → Result Counts ReadRefusal → List ℕ → List ℕ → Type 0
+ReadText size (Ok counts) buffer text =
+    text ≡ decimal counts.wrong ++ (codes " wrong, " ++ (decimal counts.blank ++ (codes " blank, word" ++ word_text (take size buffer))))
+ReadText size (Err refusal) buffer text = RefusedText (read_number refusal) text
+
+-- the last event is a read, and the text is its answer's
+abbrev pub LastReadText : List Event → List ℕ → Type 0
+LastReadText journal text =
+    (earlier : List Event) × (size : ℕ) × (answer : Result Counts ReadRefusal) × (buffer : List ℕ)
+    × (journal ≡ earlier ++ event.Read size answer buffer ∷ []) × ReadText size answer buffer text
+
+-- a fresh tag's cells are noted and read, by the law of runs, and the text is the read's
+abbrev pub RunText : Arithmetic → Code → List Cell → List ℕ → Type 0
+RunText A code cells text =
+    (journal : List Event) × (map call_of journal ≡ notes_and_read cells (length code.locators)) × RunLaw A code journal
+    × LastReadText journal text
+
+-- of a code, and cells: the code is checked and the cells are read, or the first rule that it breaks is told
+abbrev pub CardReads : Meaning → Code → List Cell → List ℕ → Type 0
+CardReads m code cells text = (Checked m code × RunText m.arithmetic code cells text) ⊎ CardRefusedText m code text
+
+-- of the letters, the rows, and a text of locators; multipliers; cells
+abbrev pub ReadAnswered : Meaning → List ℕ → List ℕ → List ℕ → Type 0
+ReadAnswered m numbers rest text =
+    (letters : ℕ) × (rows : ℕ) × (numbers ≡ letters ∷ rows ∷ []) × CardReads m (code_in letters rows rest) (cells_in (part 2 rest)) text
