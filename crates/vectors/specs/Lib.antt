@@ -6,3 +6,4 @@ pub mod Answers
 pub mod InverseText
 pub mod ReadAnswers
 pub mod LineAnswers
+pub mod CaseAnswers

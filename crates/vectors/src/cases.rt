@@ -1,6 +1,7 @@
 // The cases and their answers.
 ghost use Rattle.std.specs.Prelude.{◌≡◌, IfOk, string_bytes};
 ghost use Rattle.vectors.specs.Answers.{RefusedText, taken_text, ArithmeticText, inverses_text, products_text, SumsAnswered, RealiseAnswered, CardAnswered, AdmitsText, EncodeAnswered};
+ghost use Rattle.vectors.specs.CaseAnswers.{FieldCaseAnswered, KindAnswered, FieldAnswered, RefusalAnswered, Answered};
 ghost use Rattle.vectors.specs.LineAnswers.{LineRefusedText, LineAnswered};
 ghost use Rattle.vectors.specs.ReadAnswers.{notes_and_read, LastReadText, ReadAnswered};
 ghost use Rattle.vectors.specs.Parts.{numbers_in, cells_in};
@@ -32,20 +33,33 @@ struct Case<'a> {
 }
 
 // A case is a word and its argument. All but a line and a refusal begin with a field: its kind, and what it is made from.
-pub fn answer(heap: Global, line: &str) -> anyhow::Result<String> {
+pub fn answer(heap: Global, line: &str) -> anyhow::Result<String>
+    ensures { IfOk result (λ text. Answered line.now (string_bytes text)) }
+{
     let Some((word, argument)) = line.split_once(' ') else {
         bail!("a case has a word and its argument")
     };
-    if word == "line" {
-        return line_case(heap, argument);
+    match word {
+        "line" => line_case(heap, argument),
+        "refusal" => refusal_case(heap, argument),
+        _ => case_of_field(heap, word, argument),
     }
-    if word == "refusal" {
-        let numbers = read_numbers(heap, argument)?;
-        let [number] = numbers.as_slice() else {
-            bail!("a refusal has a number")
-        };
-        return refusal(heap, *number);
-    }
+}
+
+fn refusal_case(heap: Global, argument: &str) -> anyhow::Result<String>
+    ensures { IfOk result (λ text. RefusalAnswered argument.now (string_bytes text)) }
+{
+    let numbers = read_numbers(heap, argument)?;
+    let [number] = numbers.as_slice() else {
+        bail!("a refusal has a number")
+    };
+    refusal(heap, *number)
+}
+
+// kind origin ..;..: a case of the field of this kind, made from this number.
+fn case_of_field(heap: Global, word: &str, argument: &str) -> anyhow::Result<String>
+    ensures { IfOk result (λ text. FieldAnswered word.now argument.now (string_bytes text)) }
+{
     let (head, rest) = cut(argument);
     let numbers = read_numbers(heap, head)?;
     let [kind, origin, numbers @ ..] = numbers.as_slice() else {
@@ -57,12 +71,19 @@ pub fn answer(heap: Global, line: &str) -> anyhow::Result<String> {
         numbers,
         rest,
     };
-    match FieldKind::try_from(*kind) {
-        Ok(FieldKind::Prime) => match PrimeField::new(*origin) {
+    case_of_kind(case, *kind, *origin)
+}
+
+fn case_of_kind(case: Case<'_>, kind: u32, origin: u32) -> anyhow::Result<String>
+    ensures { IfOk result (λ text. KindAnswered kind origin case.entry.word.now case.entry.numbers.now case.entry.rest.now (string_bytes text)) }
+{
+    let heap = case.heap;
+    match FieldKind::try_from(kind) {
+        Ok(FieldKind::Prime) => match PrimeField::new(origin) {
             Ok(field) => field_case(case, field),
             Err(cause) => refused(heap, cause.number(), cause),
         },
-        Ok(FieldKind::Binary) => match BinaryField::new(*origin) {
+        Ok(FieldKind::Binary) => match BinaryField::new(origin) {
             Ok(field) => field_case(case, field),
             Err(cause) => refused(heap, cause.number(), cause),
         },
@@ -88,6 +109,7 @@ pub fn refused(
 
 fn field_case<F: LetteredField + Drop>(case: Case<'_>, field: F) -> anyhow::Result<String>
     requires { F.Field.accepted field }
+    ensures { IfOk result (λ text. FieldCaseAnswered (F.Field.meaning field) case.entry.word.now case.entry.numbers.now case.entry.rest.now (string_bytes text)) }
 {
     // One word, one call: a table of closures would be no plainer.
     match case.word {
