@@ -47,7 +47,8 @@ pub fn read_number(bytes: &[u8], start: usize) -> Result<NumberRead, NumberCause
         return Err(NumberCause::CutOff);
     }
     let third = bytes[start + 2] as u32;
-    if third == 0 {
+    let third_is_zero = third == 0;
+    if third_is_zero {
         return Err(NumberCause::BadNumber);
     }
     // A third byte that goes on makes the value too large.

@@ -12,8 +12,8 @@ pub returns-then-second-lt-GOES_ON : goal.returns-then-second-lt-GOES_ON
 returns-then-second-lt-GOES_ON c =
     read_two c.args.bytes.now c.args.start (omega arith) (omega arith) (omega arith) (omega arith) (omega arith)
 
-pub returns-then-third-eq0 : goal.returns-then-third-eq0
-returns-then-third-eq0 c = third_zero c.args.bytes.now c.args.start (omega arith) (omega arith) (omega arith) c.if-third-eq0.true
+pub returns-then-third_is_zero : goal.returns-then-third_is_zero
+returns-then-third_is_zero c = third_zero c.args.bytes.now c.args.start (omega arith) (omega arith) (omega arith) c.if-third_is_zero.true
 
 pub returns-then-value-gt-LARGEST_NUMBER : goal.returns-then-value-gt-LARGEST_NUMBER
 returns-then-value-gt-LARGEST_NUMBER c =
