@@ -1,9 +1,10 @@
 -- A card's values against the body that they stand in. Assumes nothing.
-use Rattle.std.proofs.Common.{◌≡◌, ℕ, ◌+◌, List, ◌∷◌, ◌++◌, length, drop, sym, ap, ◌∙◌, subst, arith}
+use Rattle.std.proofs.Common.{◌≡◌, ℕ, ◌+◌, List, ◌∷◌, ◌++◌, length, drop, sym, ap, ◌∙◌, subst, subst₂, arith}
 use Rattle.algebra.specs.Meaning.{Meaning}
 use Rattle.algebra.specs.Alphabet.{Alphabet}
 use Rattle.codes.specs.Code.{Code}
 use Rattle.codes.specs.Cards.{CardRefused}
+use Rattle.codes.specs.Checked.{Sizes}
 use Rattle.codes.specs.declared.card_cause.CardCause.{CardCause}
 use Rattle.codes.specs.declared.card_cause.CardCause.TheVariants.{BadShape, NoAlphabet, BadLocator, BadMultiplier}
 use Rattle.faults.specs.declared.body_fault.BodyFault.{BodyFault}
@@ -45,11 +46,7 @@ module _ (head : CardHead) (body : List ℕ) (begins : Begins (head_numbers head
   pub values_refused : (m : Meaning) (code : Code) (cause : CardCause) → Values m head body code → CardRefused m code cause → ValuesRefused m head body (Card cause)
   values_refused m code BadShape values no-shape =
       λ shape. no-shape (record {
-        two_cells = omega (arith, shape.two_cells, values.locators);
-        most_cells = omega (arith, shape.most_cells, values.locators);
-        one_row = omega (arith, shape.one_row, values.rows);
-        most_rows = omega (arith, shape.most_rows, values.rows);
-        fewer_rows = omega (arith, shape.fewer_rows, values.rows, values.locators);
+        sizes = subst₂ (λ (n k : ℕ). Sizes n k) (sym values.locators) (sym values.rows) shape;
         a_multiplier_each = values.multipliers ∙ sym values.locators;
       })
   values_refused m code NoAlphabet values (shape, no-alphabet) =

@@ -1,6 +1,7 @@
 -- Numbers that stand one after another. Assumes nothing.
-use Rattle.std.proofs.Common.{◌≡◌, ℕ, ◌+◌, ◌<◌, List, [], ◌∷◌, ◌++◌, length, drop, Ok, Err, sym, refl, ap, ◌∙◌, subst, arith}
+use Rattle.std.proofs.Common.{◌≡◌, ℕ, suc, ◌+◌, ◌<◌, ◌≤◌, List, [], ◌∷◌, ◌++◌, length, get_or, drop, Ok, Err, sym, refl, ap, ◌∙◌, subst, arith}
 use Rattle.std.proofs.lemmas.List.{append_assoc, append-nil, length-append, drop-drop}
+use Rattle.algebra.specs.Limits.{largest_size}
 use Rattle.numbers.specs.Numbers.{number_bytes}
 use Rattle.numbers.specs.NumberReading.{StandsFirst, EndsInside, NoNumber}
 use Rattle.numbers.specs.declared.number_reading.NumberRead.{NumberRead}
@@ -22,6 +23,11 @@ length_numbers_append vs ws = ap length (numbers_append vs ws) ∙ length-append
 pub small_append : (vs ws : List ℕ) → Small vs → Small ws → Small (vs ++ ws)
 small_append [] ws s t = t
 small_append (v ∷ vs) ws (small, rest) t = (small, small_append vs ws rest t)
+
+-- numbers below the largest size
+pub small_below : (size : ℕ) (list : List ℕ) → size ≤ largest_size → ((j : ℕ) → j < length list → get_or list j 0 < size) → Small list
+small_below size [] bound below = tt
+small_below size (v ∷ vs) bound below = (omega (arith, below 0 (omega arith)), small_below size vs bound (λ j h. below (suc j) (omega arith)))
 
 -- what follows two lists follows the second after the first
 pub after_append : (vs ws bytes : List ℕ) → after (vs ++ ws) bytes ≡ after ws (after vs bytes)

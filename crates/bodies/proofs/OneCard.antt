@@ -1,9 +1,8 @@
 -- A card's body is read as that card only. Assumes nothing.
-use Rattle.std.proofs.Common.{◌≡◌, ℕ, suc, ◌+◌, ◌<◌, ◌≤◌, ◌⊎◌, List, [], ◌∷◌, ◌++◌, length, get_or, take, drop, Ok, Err, sym, refl, ap, ◌∙◌, subst, ap₂, ⊎_elim, arith}
+use Rattle.std.proofs.Common.{◌≡◌, ℕ, ◌+◌, ◌≤◌, ◌⊎◌, List, [], ◌∷◌, ◌++◌, length, get_or, take, drop, Ok, Err, sym, refl, ap, ◌∙◌, subst, ap₂, subst₂, ⊎_elim, arith}
 use Rattle.std.proofs.lemmas.List.{length-append, take_at, drop_at}
 use Rattle.algebra.specs.Meaning.{Meaning, with_inverses}
 use Rattle.algebra.specs.Alphabet.{Alphabet}
-use Rattle.algebra.specs.Limits.{largest_size}
 use Rattle.fields.specs.Modulo.{Listed, modulo}
 use Rattle.fields.specs.BinaryArithmetic.{modulo_polynomial}
 use Rattle.fields.specs.Binary.{BinaryModulus, NoModulus, binary_meaning}
@@ -18,7 +17,7 @@ use Rattle.fields.specs.ListedPrimes.{listed_small}
 use Rattle.fields.specs.PolynomialDegrees.{degree_unique}
 use Rattle.codes.specs.Code.{Code}
 use Rattle.codes.specs.Cards.{card_code}
-use Rattle.codes.specs.Checked.{Checked, LocatorsFit, MultipliersFit}
+use Rattle.codes.specs.Checked.{Sizes, Checked, LocatorsFit, MultipliersFit}
 use Rattle.fields.specs.contracts.prime_field.arithmetic.PrimeFieldField.TheImpl as prime_field
 use Rattle.fields.specs.contracts.binary_field.arithmetic.BinaryFieldField.TheImpl as binary_field
 use Rattle.fields.specs.Kinds.{prime_kind, binary_kind}
@@ -35,12 +34,8 @@ use Rattle.bodies.specs.WholeLists.{Are}
 use Rattle.bodies.specs.CardHeads.{head_count, head_numbers, HeadShape, PrimeHead, BinaryHead}
 use Rattle.bodies.specs.CardBodies.{card_body, ValuesRefused, HeadRefused, RestRefused, PrimeCardIn, BinaryCardIn, CardIn, CardRead}
 use Rattle.bodies.specs.SameCards.{CardReadsBack}
-use Rattle.bodies.proofs.NumberLists.{numbers_append, small_append}
+use Rattle.bodies.proofs.NumberLists.{numbers_append, small_append, small_below}
 use Rattle.bodies.proofs.SameNumbers.{begins_of, are_begins, same_list, missing_never, list_never}
-
-small_below : (size : ℕ) (list : List ℕ) → size ≤ largest_size → ((j : ℕ) → j < length list → get_or list j 0 < size) → Small list
-small_below size [] bound below = tt
-small_below size (v ∷ vs) bound below = (omega (arith, below 0 (omega arith)), small_below size vs bound (λ j h. below (suc j) (omega arith)))
 
 -- two lists joined are told by their lengths
 pub split_first : (a b c d : List ℕ) → a ++ b ≡ c ++ d → length a ≡ length c → a ≡ c
@@ -62,7 +57,7 @@ module _ (m : Meaning) (kind origin : ℕ) (code : Code) (body : List ℕ) (kind
   head_small =
       let bound = checked.laws.bounded in
       let shape = checked.shape in
-      (kind_small, (origin_small, (omega (arith, bound, checked.alphabet.elements), (omega (arith, shape.most_cells), (omega (arith, shape.most_rows), tt)))))
+      (kind_small, (origin_small, (omega (arith, bound, checked.alphabet.elements), (omega (arith, shape.sizes.most_cells), (omega (arith, shape.sizes.most_rows), tt)))))
 
   lists_small : Small lists
   lists_small =
@@ -108,13 +103,7 @@ module _ (m : Meaning) (kind origin : ℕ) (code : Code) (body : List ℕ) (kind
       let rows : other.rows ≡ code.rows = ap (λ (l : List ℕ). get_or l 4 0) same in
       let shape = checked.shape in
       let each = shape.a_multiplier_each in
-      let fits : HeadShape other = record {
-        two_cells = omega (arith, shape.two_cells);
-        most_cells = omega (arith, shape.most_cells);
-        one_row = omega (arith, shape.one_row);
-        most_rows = omega (arith, shape.most_rows);
-        fewer_rows = omega (arith, shape.fewer_rows);
-      } in
+      let fits : HeadShape other = subst₂ (λ (n k : ℕ). Sizes n k) (sym cells) (sym rows) shape.sizes in
       let are = subst (λ (l : List ℕ). Are lists (after l body)) (sym same) rest_are in
       let count : length lists ≡ other.cells + other.cells = omega (arith, length-append code.locators code.multipliers) in
       by_fault fault refused letters fits are count

@@ -1,8 +1,8 @@
 -- The five numbers that a card's body begins with. Assumes nothing.
-use Rattle.std.specs.Prelude.{◌≡◌, ℕ, ◌<◌, ◌≤◌, ◌⊎◌, List, [], ◌∷◌, length, Ok, Err, Result}
+use Rattle.std.specs.Prelude.{◌≡◌, ℕ, ◌⊎◌, List, [], ◌∷◌, length, Ok, Err, Result}
 use Rattle.algebra.specs.Meaning.{Meaning, with_inverses}
 use Rattle.algebra.specs.Alphabet.{Alphabet}
-use Rattle.algebra.specs.Limits.{largest_cells, largest_rows}
+use Rattle.codes.specs.Checked.{Sizes}
 use Rattle.fields.specs.Modulo.{Listed, modulo}
 use Rattle.fields.specs.BinaryArithmetic.{modulo_polynomial}
 use Rattle.fields.specs.Binary.{BinaryModulus}
@@ -24,13 +24,9 @@ abbrev pub HeadRead : List ℕ → Result ReadHead BodyFault → Type 0
 HeadRead body (Ok read) = Begins (head_numbers read.head) body × (read.end ≡ length (numbers (head_numbers read.head)))
 HeadRead body (Err fault) = NumberMissing 0 head_count body fault
 
--- n is from 2 to the largest, r is from 1 to the largest and below n
-pub record HeadShape (head : CardHead) : Type 0 where
-  pub two_cells : 2 ≤ head.cells
-  pub most_cells : head.cells ≤ largest_cells
-  pub one_row : 1 ≤ head.rows
-  pub most_rows : head.rows ≤ largest_rows
-  pub fewer_rows : head.rows < head.cells
+-- its cells and rows are those that a card may have
+abbrev pub HeadShape : CardHead → Type 0
+HeadShape head = Sizes head.cells head.rows
 
 -- the field that a head of the prime kind names
 pub record PrimeHead (head : CardHead) (m : Meaning) : Type 0 where

@@ -15,13 +15,9 @@ pub record Sizes (cells rows : ℕ) : Type 0 where
   pub most_rows : rows ≤ largest_rows
   pub fewer_rows : rows < cells
 
--- n is from 2 to the largest, r is from 1 to the largest and below n, and there are as many multipliers as locators
+-- the sizes fit, and there are as many multipliers as locators
 pub record Shape (code : Code) : Type 0 where
-  pub two_cells : 2 ≤ length code.locators
-  pub most_cells : length code.locators ≤ largest_cells
-  pub one_row : 1 ≤ code.rows
-  pub most_rows : code.rows ≤ largest_rows
-  pub fewer_rows : code.rows < length code.locators
+  pub sizes : Sizes (length code.locators) code.rows
   pub a_multiplier_each : length code.multipliers ≡ length code.locators
 
 -- the locators are distinct elements

@@ -28,12 +28,12 @@ module _ {m : Meaning} {code : Code} (checked : Checked m code) (cells : List Ce
 
   pub minimal_pair : Minimal A T (state_after A T (length T)).degree (state_after A T (length T)).pair.f.coeffs (state_after A T (length T)).pair.w.coeffs
   minimal_pair =
-      minimal_after checked.laws T (modified_elements A code cells checked.laws.total) (omega (arith, length_modified A code cells, checked.shape.most_rows))
+      minimal_after checked.laws T (modified_elements A code cells checked.laws.total) (omega (arith, length_modified A code cells, checked.shape.sizes.most_rows))
 
   module _ (s f w f_after w_after : List ℕ) (is : s ≡ T) (f_places : length f ≡ coefficients) (w_places : length w ≡ coefficients) where
     lengths : Lengths s f w
     lengths = record {
-      sequence_short = omega (arith, ap length is, length_modified A code cells, checked.shape.most_rows);
+      sequence_short = omega (arith, ap length is, length_modified A code cells, checked.shape.sizes.most_rows);
       f_places = f_places;
       w_places = w_places;
     }

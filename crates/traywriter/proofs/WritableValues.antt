@@ -1,5 +1,5 @@
 -- Values that can be written as numbers. Assumes nothing.
-use Rattle.std.proofs.Common.{◌≡◌, ℕ, suc, ◌<◌, ◌≤◌, List, [], ◌∷◌, ◌++◌, map, length, get_or, Some, None, Ok, Err, Option, Result, sym, ap, ◌∙◌, subst, ap₂, arith}
+use Rattle.std.proofs.Common.{◌≡◌, ℕ, suc, ◌≤◌, List, [], ◌∷◌, ◌++◌, map, length, Some, None, Ok, Err, Option, Result, sym, ap, ◌∙◌, subst, ap₂, arith}
 use Rattle.std.proofs.lemmas.List.{append-nil}
 use Rattle.algebra.specs.Limits.{largest_cells, largest_size}
 use Rattle.algebra.specs.Meaning.{Meaning}
@@ -11,7 +11,7 @@ use Rattle.numbers.specs.Numbers.{largest_number}
 use Rattle.bodies.specs.NumberLists.{numbers, Small}
 use Rattle.bodies.specs.CardBodies.{card_body}
 use Rattle.bodies.specs.CellBodies.{cell_number, letter_number, cells_body}
-use Rattle.bodies.proofs.NumberLists.{numbers_append}
+use Rattle.bodies.proofs.NumberLists.{numbers_append, small_below}
 use Rattle.trayfile.specs.Kinds.{kind_number}
 use Rattle.trayfile.specs.declared.kind.Kind.TheVariants.{Cells}
 use Rattle.traywriter.specs.Writing.{NumberRecord, RecordWritten}
@@ -19,10 +19,6 @@ use Rattle.traywriter.specs.declared.record_writing.BodyNumbers.{BodyNumbers}
 use Rattle.traywriter.specs.Writers.{Writable, CellsWritten}
 use Rattle.traywriter.specs.declared.write_refusal.WriteRefusal.{WriteRefusal}
 use Rattle.traywriter.specs.declared.write_refusal.WriteRefusal.TheVariants.{NoLetter, WrongLength, BadNote, TooSmall}
-
-small_below : (size : ℕ) (list : List ℕ) → size ≤ largest_size → ((j : ℕ) → j < length list → get_or list j 0 < size) → Small list
-small_below size [] bound below = tt
-small_below size (v ∷ vs) bound below = (omega (arith, below 0 (omega arith)), small_below size vs bound (λ j h. below (suc j) (omega arith)))
 
 pub writable : (m : Meaning) (kind origin : ℕ) (code : Code) → Checked m code → kind ≤ largest_number → origin ≤ largest_number → Writable kind origin code
 writable m kind origin code checked kind_small origin_small =
@@ -32,9 +28,9 @@ writable m kind origin code checked kind_small origin_small =
       kind_small = kind_small;
       origin_small = origin_small;
       letters_small = omega (arith, bound, checked.alphabet.elements);
-      few_rows = shape.most_rows;
-      few_locators = shape.most_cells;
-      few_multipliers = omega (arith, shape.most_cells, shape.a_multiplier_each);
+      few_rows = shape.sizes.most_rows;
+      few_locators = shape.sizes.most_cells;
+      few_multipliers = omega (arith, shape.sizes.most_cells, shape.a_multiplier_each);
       small_locators = small_below m.arithmetic.size code.locators bound (λ j h. checked.locators.element j h);
       small_multipliers = small_below m.arithmetic.size code.multipliers bound (λ j h. checked.multipliers.element j h);
     }

@@ -59,11 +59,11 @@ comes_back Ready e follows before rest answer after ready clear stands step =
 
 body_short : (kind origin : ℕ) (m : Meaning) (code : Code) → Checked m code → length (card_body kind origin code) ≤ largest_number
 body_short kind origin m code checked =
-    omega (arith, numbers_short (kind ∷ origin ∷ code.letters ∷ length code.locators ∷ code.rows ∷ (code.locators ++ code.multipliers)), length-append code.locators code.multipliers, checked.shape.most_cells, checked.shape.a_multiplier_each)
+    omega (arith, numbers_short (kind ∷ origin ∷ code.letters ∷ length code.locators ∷ code.rows ∷ (code.locators ++ code.multipliers)), length-append code.locators code.multipliers, checked.shape.sizes.most_cells, checked.shape.a_multiplier_each)
 
 card_follows : (card : AnyCard) (turn : Turn) → (next : Turn) × Follows turn (entry kinds.Card (tray_body card)) next
 card_follows (Prime card) turn =
-    let shape : CardShape = record { cells = length (card_code card).locators; letters = (card_code card).letters; few = card.checked.shape.most_cells } in (
+    let shape : CardShape = record { cells = length (card_code card).locators; letters = (card_code card).letters; few = card.checked.shape.sizes.most_cells } in (
       InTurn shape,
       record {
         task = tasks.Card;
@@ -73,7 +73,7 @@ card_follows (Prime card) turn =
       },
     )
 card_follows (Binary card) turn =
-    let shape : CardShape = record { cells = length (card_code card).locators; letters = (card_code card).letters; few = card.checked.shape.most_cells } in (
+    let shape : CardShape = record { cells = length (card_code card).locators; letters = (card_code card).letters; few = card.checked.shape.sizes.most_cells } in (
       InTurn shape,
       record {
         task = tasks.Card;
@@ -103,7 +103,7 @@ module _ (m : Meaning) (code : Code) (cells : List Cell) (checked : Checked m co
   }
 
   cells_short : length (cells_body cells) ≤ largest_number
-  cells_short = omega (arith, numbers_short (map cell_number cells), length-map cells cell_number, checked.shape.most_cells)
+  cells_short = omega (arith, numbers_short (map cell_number cells), length-map cells cell_number, checked.shape.sizes.most_cells)
 
   cells_done : (shape : CardShape) → ShapeOf code shape → CellsIn shape.cells shape.letters (cells_body cells) cells
   cells_done shape shaped =

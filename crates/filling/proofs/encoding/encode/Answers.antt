@@ -13,6 +13,6 @@ returns g c =
     let alphabet = ap (λ (x : Code). x.letters) c.code-code.ensures in
     let rows = ap (λ (x : Code). x.rows) c.code-code.ensures in
     encoded card.checked letters c.args.word.now c.write_codeword.new.word (omega arith)
-    (record { data_each = omega (arith, card.checked.shape.fewer_rows); a_place_each = omega arith })
+    (record { data_each = omega (arith, card.checked.shape.sizes.fewer_rows); a_place_each = omega arith })
     (subst (λ size. AllBelow size letters) alphabet (c.if-not-all_below.ensures.0 refl))
     c.write_codeword.ensures

@@ -12,7 +12,7 @@ write_letters-requires-clause-few g c =
     let code = code_of c.over-over.result.code in
     let count = ap blanks (c.as_slice-cells.ensures.value ∙ c.data_cells-cells.ensures) ∙ blanks_data_cells code c.args.data.now in
     let rows = ap (λ (x : Code). x.rows) c.over-over.ensures.values in
-    record { rows = omega arith; largest = omega (arith, c.args.card.now.checked.shape.most_rows) }
+    record { rows = omega arith; largest = omega (arith, c.args.card.now.checked.shape.sizes.most_rows) }
 
 pub returns : goal.returns
 unfolding encoding

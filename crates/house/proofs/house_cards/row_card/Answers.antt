@@ -8,13 +8,13 @@ use Rattle.house.specs.declared.house_rows.HouseRow.{HouseRow}
 use Rattle.house.proofs.house_cards.row_card.Goals as goal
 
 few_cells : (m : Meaning) (row : HouseRow) → Checked m (row_code row) → row.cells ≤ largest_cells
-few_cells m row checked = omega (arith, checked.shape.most_cells, length-range_with_len (rule_first row.locators) row.cells)
+few_cells m row checked = omega (arith, checked.shape.sizes.most_cells, length-range_with_len (rule_first row.locators) row.cells)
 
 -- the last locator is an element, so it is small
 small_locators : (m : Meaning) (row : HouseRow) → Checked m (row_code row) → rule_first row.locators + row.cells < 2 ^ 32
 small_locators m row checked =
     let n = row.cells in
-    let two = checked.shape.two_cells in
+    let two = checked.shape.sizes.two_cells in
     let long = length-range_with_len (rule_first row.locators) n in
     omega (arith, get_or-range_with_len (rule_first row.locators) n (n - 1) 0 (omega arith), checked.locators.element (n - 1) (omega arith), checked.laws.bounded)
 

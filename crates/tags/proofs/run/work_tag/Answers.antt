@@ -22,7 +22,7 @@ returns-in_default g c =
         ended = (c.loop-events.worker, inv.3, subst (λ (js : List Event). g.W.Worker.picks c.loop-events.worker js None c.pick.new.self) seen c.in_default.ensures, omega (arith, length-take-le c.loop-events.events c.loop-events.journal inv.5));
         others = inv.6;
       };
-      law = run_law (g.F.Field.meaning card.field).arithmetic (card_code card) card.checked.shape.most_cells _ inv.2;
+      law = run_law (g.F.Field.meaning card.field).arithmetic (card_code card) card.checked.shape.sizes.most_cells _ inv.2;
     }
 
 pub loop-events-preserved : goal.loop-events-preserved
@@ -74,5 +74,5 @@ returns g c =
         );
         others = subst (λ n. drop n journal ≡ drop n c.args.journal.now) full inv.6;
       };
-      law = run_law A code card.checked.shape.most_cells _ (subst (λ n. AllAnswered A code (take n journal)) full inv.2);
+      law = run_law A code card.checked.shape.sizes.most_cells _ (subst (λ n. AllAnswered A code (take n journal)) full inv.2);
     }

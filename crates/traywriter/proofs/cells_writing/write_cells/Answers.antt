@@ -16,7 +16,7 @@ write_numbers-requires g c =
     let checked = c.args.card.now.checked in
     let head = c.as_slice.ensures.value ∙ c.cell_numbers-numbers.ensures in
     let letters : c.code-letters.result.letters ≤ largest_size = omega (arith, ap (λ (x : Code). x.letters) c.code-letters.ensures, checked.alphabet.elements, checked.laws.bounded) in
-    let few : length (map cell_number cells) ≤ largest_cells = omega (arith, c.if-cells.false, c.cells.ensures, checked.shape.most_cells, length-map cells cell_number) in
+    let few : length (map cell_number cells) ≤ largest_cells = omega (arith, c.if-cells.false, c.cells.ensures, checked.shape.sizes.most_cells, length-map cells cell_number) in
     one_list _ (map cell_number cells) head refl refl few (small_cells c.code-letters.result.letters cells letters (c.if-not-lettered.ensures.0 refl))
 
 pub returns : goal.returns

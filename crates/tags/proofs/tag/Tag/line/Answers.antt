@@ -21,7 +21,7 @@ invariant_of-self g c =
     let cells = tag.table.cells in
     let after = c.read_line.new.cells in
     let marks = chars c.args.line.now in
-    let own = own_line n card.letters cells after marks c.read_line.result c.cells-width.result _ card.checked.shape.most_cells c.cells-width.ensures (ap (λ (d : Code). d.letters) c.code-letters.ensures) tag.long c.read_line.auto.cells c.read_line.ensures in
+    let own = own_line n card.letters cells after marks c.read_line.result c.cells-width.result _ card.checked.shape.sizes.most_cells c.cells-width.ensures (ap (λ (d : Code). d.letters) c.code-letters.ensures) tag.long c.read_line.auto.cells c.read_line.ensures in
     record {
       long = same_len_mid 0 (c.cells-width.result - 0) cells after c.read_line.auto.cells ∙ tag.long;
       lettered =
@@ -37,7 +37,7 @@ returns g c =
     let cells = tag.table.cells in
     let after = c.read_line.new.cells in
     let marks = chars c.args.line.now in
-    let own = own_line n card.letters cells after marks c.read_line.result c.cells-width.result _ card.checked.shape.most_cells c.cells-width.ensures (ap (λ (d : Code). d.letters) c.code-letters.ensures) tag.long c.read_line.auto.cells c.read_line.ensures in
+    let own = own_line n card.letters cells after marks c.read_line.result c.cells-width.result _ card.checked.shape.sizes.most_cells c.cells-width.ensures (ap (λ (d : Code). d.letters) c.code-letters.ensures) tag.long c.read_line.auto.cells c.read_line.ensures in
     let answered = line_answered (card_code card) marks (take n cells) after own.before_long c.read_line.result own.read in
     let front = take_at after _ n own.after_long in
     record {

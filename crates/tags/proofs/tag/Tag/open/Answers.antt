@@ -10,11 +10,11 @@ pub invariant_of-result : goal.invariant_of-result
 invariant_of-result g c =
     let card = c.args.card.now in
     let n = length card.locators.items in
-    let blank = ap (λ (x : Cell). take n (replicate 256 x)) c.blank.ensures ∙ take-replicate n 256 blank_cell card.checked.shape.most_cells in
+    let blank = ap (λ (x : Cell). take n (replicate 256 x)) c.blank.ensures ∙ take-replicate n 256 blank_cell card.checked.shape.sizes.most_cells in
     record { long = refl; lettered = ∣ subst (Lettered card.letters) (sym blank) (lettered_blank card.letters n) ∣₁ }
 
 pub returns : goal.returns
 returns g c =
     let card = c.args.card.now in
     let n = length card.locators.items in
-    record { same = refl; blank = ap (λ (x : Cell). take n (replicate 256 x)) c.blank.ensures ∙ take-replicate n 256 blank_cell card.checked.shape.most_cells }
+    record { same = refl; blank = ap (λ (x : Cell). take n (replicate 256 x)) c.blank.ensures ∙ take-replicate n 256 blank_cell card.checked.shape.sizes.most_cells }

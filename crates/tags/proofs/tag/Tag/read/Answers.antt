@@ -11,7 +11,7 @@ read_cells-requires g c =
     let card = tag.card.now in
     let own = c.cells.ensures in
     let n = length card.locators.items in
-    let fits = card.checked.shape.most_cells in
+    let fits = card.checked.shape.sizes.most_cells in
     let long = tag.long in
     record {
       long = ap length own ∙ length-take-le n tag.table.cells (omega arith);
