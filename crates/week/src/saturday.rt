@@ -7,7 +7,7 @@ use house::inked_card;
 use inkedtag::CELLS;
 use traywriter::{WriteRefusal, write_card, write_cells};
 
-// A card of twenty cells takes 47 bytes, and its cells at most 62.
+// The card's record has 47 bytes and that of the cells 22; the proof counts up to 66 there, three for each number.
 const ROOM: usize = 128;
 
 // The bytes of the inked card's record and of these cells.
