@@ -1,6 +1,9 @@
 // The week of one inked tag: on Monday its letters are encoded and inked, later ink bleeds and goes, and on Friday the tag is read.
 #![tactic(auto)]
 
+ghost use Rattle.std.specs.Prelude.{string_bytes};
+ghost use Rattle.std.specs.Io.{StopsAt};
+
 mod found;
 mod friday;
 mod marks;
@@ -15,8 +18,10 @@ use marks::Marks;
 use saturday::file_tag;
 use traylines::write_lines;
 
-// The next line of the input, without its end.
-fn next_line(rt: &HostRuntime, input: &mut String) -> anyhow::Result<()> {
+// One more line of the input, with the byte 10 that ends it, in place of what `input` held.
+fn next_line(rt: &HostRuntime, input: &mut String) -> anyhow::Result<()>
+    ensures { StopsAt (string_bytes input.new) 10 }
+{
     input.clear();
     rt.read_line(input)?;
     Ok(())
