@@ -1,5 +1,5 @@
 -- A card's values against the body that they stand in. Assumes nothing.
-use Rattle.std.proofs.Common.{◌≡◌, ℕ, ◌+◌, List, ◌∷◌, ◌++◌, length, drop, sym, ap, ◌∙◌, subst, subst₂, arith}
+use Rattle.std.proofs.Common.{◌≡◌, ℕ, ◌+◌, List, ◌∷◌, ◌++◌, length, drop, sym, ap, ◌∙◌, subst, subst₂}
 use Rattle.algebra.specs.Meaning.{Meaning}
 use Rattle.algebra.specs.Alphabet.{Alphabet}
 use Rattle.codes.specs.Code.{Code}
