@@ -1,2 +1,3 @@
 pub mod FourCards
 pub mod FourRuns
+pub mod EventTexts
