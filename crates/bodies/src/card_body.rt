@@ -9,6 +9,10 @@ use codes::{AnyCard, Card, CardCause, CodeRef};
 use faults::BodyFault;
 use fields::{BinaryField, LetteredField, NoSuchField, PrimeField};
 
+/// Turns a card's body into the checked card. Refused with 32 or 35 where its five first numbers
+/// are not there, then 10, 11 or 12 for the field, 13 for the shape, 14 for the alphabet, then 32
+/// or 35 where two lists of n numbers and the body's end do not follow, then 15 for a locator, 16
+/// for a multiplier.
 pub fn read_card(body: &[u8]) -> Result<AnyCard, BodyFault>
     ensures read { CardRead body.now result }
     ensures back { CardReadsBack }

@@ -8,7 +8,8 @@ use faults::BodyFault;
 
 #[derive(Clone, Copy)]
 pub struct CardHead {
-    // The number of the field's kind, which may be no kind's until that is asked, and what the field is made from.
+    // The number of the field's kind, which may be no kind's until that is asked, and what the
+    // field is made from.
     pub kind: u32,
     pub origin: u32,
     pub letters: u32,

@@ -22,7 +22,9 @@ pub fn check_cells(shape: CardShape, body: &[u8]) -> Result<(), BodyFault>
     Ok(())
 }
 
-// Writes the cells of a body under its card into a buffer of n cells.
+/// Writes the cells of a body under its card into a buffer of n cells. Refused with 25 where the
+/// buffer has another length, then 32 or 35, from left to right, where the body is not n numbers
+/// and nothing more, then 22 where one is no letter and no blank. The buffer is then as it was.
 pub fn read_cells<F: LetteredField>(
     card: &Card<F>,
     body: &[u8],
@@ -66,7 +68,8 @@ fn write_cells(numbers: &[u32], cells: &mut [Cell])
     requires { length cells.old ≡ length numbers.now }
     ensures { cells.new ≡ cells_of numbers.now }
 {
-    // A proof knows nothing of what a zip of `iter_mut` writes, so the number is found by its place.
+    // A proof knows nothing of what a zip of `iter_mut` writes, so the number is found by its
+    // place.
     for (j, cell) in cells.iter_mut().enumerate() {
         *cell = cell_of(numbers[j]);
     }

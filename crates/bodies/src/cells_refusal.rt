@@ -6,17 +6,20 @@ ghost use Rattle.bodies.specs.declared.cells_refusal.CellsRefusal.TheVariants.{B
 use faults::BodyFault;
 use thiserror::Error;
 
+/// Why cells are not read into a buffer.
 #[derive(Clone, Copy, PartialEq, Eq, Debug, Error)]
 pub enum CellsRefusal {
-    // The buffer is not n long.
+    /// The buffer is not n long.
     #[error("wrong length")]
     WrongLength,
+    /// The body is not that of cells under the card.
     #[error(transparent)]
     Body(BodyFault),
 }
 
 // A case holds another fault, so the numbers cannot stand at the cases.
 impl CellsRefusal {
+    /// The refusal's number: 25, or that of the body's fault.
     pub fn number(self) -> u32
         ensures { result ≡ cells_refusal_number self }
     {

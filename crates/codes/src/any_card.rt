@@ -7,6 +7,7 @@ use crate::card::Card;
 use crate::code::CodeRef;
 use fields::{BinaryField, PrimeField};
 
+/// A checked card, over a field of any kind that the library makes.
 #[derive(Drop)]
 pub enum AnyCard {
     Prime(Card<PrimeField>),
@@ -14,6 +15,7 @@ pub enum AnyCard {
 }
 
 impl AnyCard {
+    /// The card's plain values, lent.
     pub fn code(&self) -> CodeRef<'_>
         ensures { code_of result ≡ any_code self.now }
     {

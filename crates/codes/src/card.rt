@@ -10,6 +10,8 @@ use arrayvec::ArrayVec;
 pub use check::sizes_fit;
 use fields::LetteredField;
 
+/// A checked card: an accepted field, and the values of a code over it that break no rule of a
+/// card. It has n cells and r rows. `Card::check` makes it.
 #[derive(Drop)]
 pub struct Card<F: LetteredField> {
     field: F,

@@ -5,6 +5,7 @@ ghost use Rattle.codes.specs.WordText.{cells_text};
 use crate::cell::Cell;
 use std::fmt;
 
+/// A row of cells to print: each letter as a decimal number after a space, and '?' for a blank.
 #[derive(Clone, Copy)]
 pub struct CellRow<'a> {
     pub cells: &'a [Cell],

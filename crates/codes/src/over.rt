@@ -1,6 +1,7 @@
 // A code over a field, lent. No law is asked of the field, and no rule of the values.
 use crate::code::CodeRef;
 
+/// A code over a field, lent. No law is asked of the field, and no rule of the values.
 #[derive_where(Clone, Copy)]
 pub struct CodeOver<'a, F> {
     pub field: &'a F,

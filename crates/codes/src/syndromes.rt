@@ -9,13 +9,17 @@ use crate::over::CodeOver;
 use fields::Field;
 use thiserror::Error;
 
+/// Why no sums are written.
 #[derive(Clone, Copy, PartialEq, Eq, Debug, Error)]
 pub enum SumsRefusal {
+    /// The cells or the multipliers are not as many as the locators, or the buffer is not as long
+    /// as the code has rows.
     #[error("wrong length")]
     WrongLength = 25,
 }
 
 impl SumsRefusal {
+    /// The refusal's number.
     pub fn number(self) -> u32
         ensures { result ≡ sums_number self }
     {
@@ -24,7 +28,9 @@ impl SumsRefusal {
 }
 
 impl<'a, F: Field> CodeOver<'a, F> {
-    // Writes into `sums` the sum of each row over the noted cells.
+    /// Writes into `sums`, a buffer of r numbers, the sum of each row over the noted cells. Refused
+    /// with 25 where the cells or the multipliers are not as many as the locators, or the buffer
+    /// has another length. The buffer is then as it was.
     pub fn sums(self, cells: &[Cell], sums: &mut [u32]) -> Result<(), SumsRefusal>
         ensures { Summed (F.Field.meaning self.entry.field.now).arithmetic (code_of self.entry.code) cells.now sums.old sums.new result }
     {
@@ -34,7 +40,8 @@ impl<'a, F: Field> CodeOver<'a, F> {
             return Err(SumsRefusal::WrongLength);
         }
         sums.fill(0);
-        // By index, since the sums are defined so: place j has the cell, the locator and the multiplier of place j.
+        // By index, since the sums are defined so: place j has the cell, the locator and the
+        // multiplier of place j.
         for (j, cell) in cells.iter().enumerate() {
             if let Some(letter) = cell.letter {
                 let weighted = self.field.mul(letter, code.multipliers[j]);
@@ -45,7 +52,7 @@ impl<'a, F: Field> CodeOver<'a, F> {
     }
 }
 
-// Adds x × locator^k to the sum of row k, for every row.
+/// Adds x × locator^k to the sum of row k, for every row. The slice may have any length.
 pub fn add_powers<F: Field>(field: &F, x: u32, locator: u32, sums: &mut [u32])
     ensures { (k : ℕ) → k < length sums.new → slice_index sums.new k ≡ (F.Field.meaning field.now).arithmetic.plus (slice_index sums.old k) (times_power (F.Field.meaning field.now).arithmetic x locator k) }
 {

@@ -4,6 +4,7 @@ ghost use Rattle.codes.specs.WordText.{word_text};
 
 use std::fmt;
 
+/// A word to print: each letter as a decimal number after a space.
 #[derive(Clone, Copy)]
 pub struct Word<'a> {
     pub letters: &'a [u32],

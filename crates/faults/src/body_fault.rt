@@ -10,25 +10,32 @@ use codes::CardCause;
 use fields::{FieldCause, NoSuchField};
 use thiserror::Error;
 
-// A bad number begins so many bytes after the body's first.
+/// Why a record's body is refused.
 #[derive(Clone, Copy, PartialEq, Eq, Debug, Error)]
 pub enum BodyFault {
+    /// A number is bad. It begins so many bytes after the body's first.
     #[error("bad number")]
     BadNumber(usize),
+    /// The body is too short or too long.
     #[error("bad body")]
     BadBody,
+    /// A note has more than 200 bytes, or a byte outside 32 to 126.
     #[error("bad note")]
     BadNote,
+    /// A card's field is refused.
     #[error(transparent)]
     Field(FieldFault),
+    /// The values of a card break a rule.
     #[error(transparent)]
     Card(CardCause),
+    /// Cells are refused.
     #[error(transparent)]
     Tag(TagCause),
 }
 
 // Cases hold other causes, so the numbers cannot stand at the cases.
 impl BodyFault {
+    /// The fault's number: 32, 35, 36, or that of the cause which a case holds.
     pub fn number(self) -> u32
         ensures { result ≡ body_fault_number self }
     {

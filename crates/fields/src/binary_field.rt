@@ -13,6 +13,9 @@ ghost use Rattle.fields.specs.BinaryArithmetic.{largest_modulus};
 
 pub use laws::polynomial_laws;
 
+/// The binary kind: polynomials over two elements modulo an irreducible one. A number stands for
+/// the polynomial whose coefficient of X^i is its bit i. With k the degree of the modulus, the
+/// elements are the numbers below 2^k.
 #[derive(Clone, Copy)]
 pub struct BinaryField {
     modulus: u32,

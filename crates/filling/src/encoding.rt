@@ -12,7 +12,10 @@ use arrayvec::ArrayVec;
 use codes::{Card, Cell};
 use fields::{Field, LetteredField, all_below};
 
-// Writes into `word` the codeword that begins with `data`.
+/// Writes into `word`, a buffer of n numbers, the codeword that begins with `data`, which are n − r
+/// letters. Refused with 26 where the alphabet size is below the field's size, then 25 where the
+/// data or the buffer have another length, then 22 where a number of the data is no letter. The
+/// buffer is then as it was.
 pub fn encode<F: LetteredField>(
     card: &Card<F>,
     data: &[u32],

@@ -1,4 +1,5 @@
-// The letter at an erased place, from the annihilator of the erased locators and the sums over the other places.
+// The letter at an erased place, from the annihilator of the erased locators and the sums over the
+// other places.
 ghost use Rattle.std.specs.Prelude.{◌≡◌, ◌≤◌, length};
 ghost use Rattle.std.specs.Option.{unwrap_or};
 ghost use Rattle.algebra.specs.Polynomial.{evaluate, quotient_linear, act};
@@ -11,7 +12,8 @@ use crate::polynomial::Polynomial;
 use codes::Cell;
 use fields::Field;
 
-// The annihilator of the erased locators, and the sums over the other places: one at least for each of its roots.
+// The annihilator of the erased locators, and the sums over the other places: one at least for each
+// of its roots.
 #[derive(Drop)]
 pub struct Erasures<'a, F> {
     pub field: &'a F,
@@ -46,7 +48,8 @@ pub fn blank_annihilator<F: Field>(field: &F, locators: &[u32], cells: &[Cell]) 
 }
 
 impl<'a, F: Field> Erasures<'a, F> {
-    // The letter of a cell with this locator and this multiplier: the noted one, or at a blank the one that the sums give.
+    // The letter of a cell with this locator and this multiplier: the noted one, or at a blank the
+    // one that the sums give.
     pub fn letter_of(&self, cell: Cell, locator: u32, multiplier: u32) -> u32
         ensures { result ≡ unwrap_or cell.letter (letter_from (F.Field.meaning self.now.field.now) (coefficients_of self.now.annihilator.now) (number_at self.now.sums.now) locator multiplier) }
     {
@@ -67,7 +70,8 @@ impl<'a, F: Field> Erasures<'a, F> {
             .mul(numerator, self.field.invert(denominator).unwrap_or(0))
     }
 
-    // Divides by X − point from the highest coefficient down (synthetic division); no coefficient of the quotient is kept.
+    // Divides by X − point from the highest coefficient down (synthetic division); no coefficient
+    // of the quotient is kept.
     fn divide_linear(&self, point: u32) -> Cofactor
         ensures action { result.action ≡ act (F.Field.meaning self.now.field.now).arithmetic (quotient_linear (F.Field.meaning self.now.field.now).arithmetic point (coefficients_of self.now.annihilator.now)) (number_at self.now.sums.now) 0 }
         ensures value { result.value ≡ evaluate (F.Field.meaning self.now.field.now).arithmetic (quotient_linear (F.Field.meaning self.now.field.now).arithmetic point (coefficients_of self.now.annihilator.now)) point }

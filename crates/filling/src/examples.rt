@@ -1,7 +1,8 @@
 // What the definitions are held to on examples.
 ghost use Rattle.filling.specs.CodeExamples.{EncodingExample};
 
-// Asks for the proofs; it does nothing.
+/// What the definition of encoding gives in an example. The call does nothing: its clause is the
+/// example.
 pub fn code_examples()
     ensures { EncodingExample }
 {}

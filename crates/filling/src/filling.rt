@@ -9,8 +9,11 @@ use algebra::LARGEST_ROWS;
 use codes::{Cell, CodeOver, count_blanks};
 use fields::Field;
 
-// Writes into `word` the noted letters and, at the blanks, the letters that make the sums of a codeword 0, where `sums`
-// has the sum of each row over the noted cells.
+/// Writes into `word`, a buffer of n numbers, the noted letters and, at the blanks, the letters
+/// that `sums` give: the r sums over the noted cells. Over a card, a codeword that agrees with the
+/// noted cells has these letters. Refused with 25 where the cells, the multipliers or the buffer
+/// are not as many as the locators, or there is not a sum for each row, then 23 where more cells
+/// are blank than the code has rows, or more than 64. The buffer is then as it was.
 pub fn fill<F: Field>(
     over: CodeOver<'_, F>,
     cells: &[Cell],
@@ -55,7 +58,8 @@ pub fn write_letters<F: Field>(
         annihilator: &blank_annihilator(over.field, code.locators, cells),
         sums,
     };
-    // A zip on `iter_mut` tells a proof nothing of what is written, so the other lists are read at the index.
+    // A zip on `iter_mut` tells a proof nothing of what is written, so the other lists are read at
+    // the index.
     for (j, letter) in word.iter_mut().enumerate() {
         *letter = erasures.letter_of(cells[j], code.locators[j], code.multipliers[j]);
     }

@@ -15,7 +15,8 @@ use arrayvec::ArrayVec;
 use codes::{AnyCard, Card, CodeRef};
 use fields::{BinaryField, FieldKind, LetteredField, PrimeField};
 
-// The checked card of the house card with this number.
+/// The checked card of the house card with this number. Refused with 18 unless the number is 1, 2
+/// or 3.
 pub fn house_card(number: u32) -> Result<AnyCard, HouseRefusal>
     ensures { HouseCardMade number result }
 {
@@ -26,18 +27,21 @@ pub fn house_card(number: u32) -> Result<AnyCard, HouseRefusal>
     })
 }
 
+/// The checked card of house card 1, engraved.
 pub fn engraved_card() -> Card<BinaryField>
     ensures { BinaryCardOf engraved result }
 {
     row_card(BinaryField::new(ENGRAVED.origin).unwrap(), ENGRAVED)
 }
 
+/// The checked card of house card 2, inked.
 pub fn inked_card() -> Card<PrimeField>
     ensures { PrimeCardOf inked result }
 {
     row_card(PrimeField::new(INKED.origin).unwrap(), INKED)
 }
 
+/// The checked card of house card 3, punched.
 pub fn punched_card() -> Card<BinaryField>
     ensures { BinaryCardOf punched result }
 {

@@ -7,19 +7,25 @@ use crate::mark::read_mark;
 use codes::Cell;
 use thiserror::Error;
 
+/// Why a line is not read.
 #[derive(Clone, Copy, PartialEq, Eq, Debug, Error)]
 pub enum LineRefusal {
+    /// The line has not as many marks as there are cells.
     #[error("wrong length")]
     WrongLength,
+    /// The alphabet has more than 37 letters.
     #[error("bad mark")]
     UnmarkedAlphabet,
-    // The place counts from 0.
+    /// A mark is no letter of the alphabet and no '?'. It is the first such one, and its place
+    /// counts from 0.
     #[error("bad mark")]
     BadMark { place: usize },
 }
 
 // A case holds a place, so the numbers cannot stand at the cases.
 impl LineRefusal {
+    /// The refusal's number: 25, or 28 for a bad mark and for an alphabet that has letters without
+    /// one.
     pub fn number(self) -> u32
         ensures { result ≡ line_number self }
     {
@@ -33,7 +39,9 @@ impl LineRefusal {
 // How many letters have a mark.
 const MARKED_LETTERS: u32 = 37;
 
-// Sets all cells from a line of as many marks.
+/// Sets all cells from a line of as many marks (characters, not bytes), each a letter below
+/// `letters` or '?'. Refused with 25 where there are more or fewer marks, then 28 where `letters`
+/// is above 37 or a mark is no such letter and no '?'. The cells are then as they were.
 pub fn read_line(line: &str, letters: u32, cells: &mut [Cell]) -> Result<(), LineRefusal>
     ensures { LineRead letters (chars line.now) cells.old cells.new result }
 {
@@ -50,7 +58,7 @@ pub fn read_line(line: &str, letters: u32, cells: &mut [Cell]) -> Result<(), Lin
     Ok(())
 }
 
-// How many marks a line has.
+/// How many marks a line has. They are its characters, not its bytes.
 pub fn count_marks(line: &str) -> usize
     ensures { result ≡ length (chars line.now) }
 {

@@ -4,7 +4,8 @@ ghost use Rattle.lines.specs.Marks.{cell_of_mark};
 
 use codes::Cell;
 
-// The cell that a mark stands for, or nothing for a strange mark.
+/// The cell that a mark stands for, or nothing for a strange mark. '0' to '9' are the letters 0 to
+/// 9, 'A' to 'Z' are 10 to 35, '-' is 36, and '?' is a blank.
 pub fn read_mark(mark: char) -> Option<Cell>
     ensures { result ≡ cell_of_mark mark }
 {

@@ -1,7 +1,8 @@
 // What the definitions are held to on examples.
 ghost use Rattle.numbers.specs.NumberExamples.{NumberExamples};
 
-// Asks for the proofs; it does nothing.
+/// What the definitions of numbers give in examples. The call does nothing: its clause is the
+/// examples.
 pub fn number_examples()
     ensures { NumberExamples }
 {}

@@ -15,7 +15,8 @@ pub struct NumberRead {
     pub end: usize,
 }
 
-// The number whose first byte is at `start`. A slice and a place in it, and no cut slice: a fault names the place.
+// The number whose first byte is at `start`. A slice and a place in it, and no cut slice: a fault
+// names the place.
 pub fn read_number(bytes: &[u8], start: usize) -> Result<NumberRead, NumberCause>
     ensures { NumberAnswered (drop start bytes.now) start result }
 {

@@ -10,15 +10,19 @@ use algebra::{COEFFICIENTS, LONGEST_SEQUENCE};
 use fields::{Field, all_below};
 use thiserror::Error;
 
+/// Why a sequence is not realised.
 #[derive(Clone, Copy, PartialEq, Eq, Debug, Error)]
 pub enum RealiseRefusal {
+    /// The sequence has more than 64 numbers, or a buffer is not of 65.
     #[error("wrong length")]
     WrongLength = 25,
+    /// A number of the sequence is no element.
     #[error("no element")]
     NoElement = 17,
 }
 
 impl RealiseRefusal {
+    /// The refusal's number.
     pub fn number(self) -> u32
         ensures { result ≡ realise_number self }
     {
@@ -33,8 +37,9 @@ struct Pair {
     w: Poly,
 }
 
-// What the algorithm holds between two numbers of the sequence. That nothing but zeros stands above the degree (`Bounded`) is asked for
-// by the calls of a step; no ghost field keeps it, since they change one field after another.
+// What the algorithm holds between two numbers of the sequence. That nothing but zeros stands above
+// the degree (`Bounded`) is asked for by the calls of a step; no ghost field keeps it, since they
+// change one field after another.
 #[derive(Drop)]
 struct State {
     pair: Pair,
@@ -67,8 +72,8 @@ impl State {
         }
     }
 
-    // The pair and the kept pair in each other's places, before a new pair of a larger degree is made; `discrepancy` is
-    // that of the pair which is kept from now on.
+    // The pair and the kept pair in each other's places, before a new pair of a larger degree is
+    // made; `discrepancy` is that of the pair which is kept from now on.
     fn change(&mut self, discrepancy: u32)
         requires negative { self.old.d <ℤ pos 0 }
         requires small { self.old.degree + unsigned_abs self.old.d < coefficients }
@@ -121,8 +126,8 @@ impl State {
     }
 }
 
-// f_0 × s_k + .. + f_m × s_(k+m), with m the degree. It adds from the lowest coefficient up, as the contract does for every field;
-// the sum over coefficients of `reading` adds from the highest down.
+// f_0 × s_k + .. + f_m × s_(k+m), with m the degree. It adds from the lowest coefficient up, as the
+// contract does for every field; the sum over coefficients of `reading` adds from the highest down.
 fn apply<F: Field>(field: &F, f: &Poly, degree: usize, sequence: &[u32], k: usize) -> u32
     requires small { degree < coefficients }
     requires within { k + degree < length sequence.now }
@@ -135,7 +140,11 @@ fn apply<F: Field>(field: &F, f: &Poly, degree: usize, sequence: &[u32], k: usiz
     sum
 }
 
-// Writes into `f` and `w` a minimal pair of the sequence, and answers the degree of f.
+/// Writes into `f` and `w`, buffers of 65 numbers each, a minimal pair of the sequence, and answers
+/// the degree of f. The constant terms come first, and zeros stand above the degree. Where the
+/// field is accepted, f fits the sequence, w is its partner, and nothing of lower degree fits.
+/// Refused with 25 where the sequence has more than 64 numbers or a buffer another length, then 17
+/// where a number is no element. Both buffers are then as they were.
 pub fn realise<F: Field>(
     field: &F,
     sequence: &[u32],
@@ -161,7 +170,7 @@ pub fn realise<F: Field>(
     Ok(state.degree)
 }
 
-// The worked examples hold of the definitions.
+/// The worked examples hold of the definitions. The call does nothing: its clause is the examples.
 pub fn worked_pairs()
     ensures { WorkedPairs }
 {}

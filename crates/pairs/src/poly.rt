@@ -6,8 +6,8 @@ ghost use Rattle.pairs.specs.Poly.{constant, coefficient, combined, UpTo};
 use algebra::COEFFICIENTS;
 use fields::Field;
 
-// Not the `Polynomial` of `filling`: the degree here is that of a pair, and every place is handed out.
-// Neither `Copy` nor `Clone`: a polynomial changes in its own places.
+// Not the `Polynomial` of `filling`: the degree here is that of a pair, and every place is handed
+// out. Neither `Copy` nor `Clone`: a polynomial changes in its own places.
 #[derive(Drop)]
 pub struct Poly {
     // The constant term first, and zeros above the degree.
@@ -51,8 +51,9 @@ impl Combination {
         requires { UpTo self.now.degree p.old }
         ensures { p.new ≡ combined (F.Field.meaning field.now).arithmetic self.now.a p.old self.now.b self.now.d q.now self.now.degree }
     {
-        // By place: `array::from_fn` goes through all 65, and those above the degree hold zeros and are not to be touched; a coefficient
-        // reads both polynomials, so the places of one cannot be lent out meanwhile.
+        // By place: `array::from_fn` goes through all 65, and those above the degree hold zeros and
+        // are not to be touched; a coefficient reads both polynomials, so the places of one cannot
+        // be lent out meanwhile.
         for j in 0..self.degree + 1 {
             p.coeffs[j] = self.coefficient(field, p, q, j);
         }

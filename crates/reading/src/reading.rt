@@ -16,8 +16,11 @@ use algebra::LARGEST_CELLS;
 use codes::{Card, Cell, count_blanks};
 use fields::LetteredField;
 
-// Writes the near codeword into `word`, and answers how many cells are wrong and how many are blank. What is asked of the cells, one
-// for each locator and every noted letter in the alphabet, is what a tag keeps.
+/// Writes the near codeword into `word`, a buffer of n numbers, and answers how many cells are
+/// wrong and how many are blank. Refused with 25 where the buffer has another length, then 23 where
+/// more cells are blank than the card has rows, then 24 where no codeword is near. The buffer is
+/// then as it was. What is asked of the cells, one for each locator and every noted letter in the
+/// alphabet, is what a tag keeps.
 pub fn read_cells<F: LetteredField>(
     card: &Card<F>,
     cells: &[Cell],
@@ -44,7 +47,8 @@ pub fn read_cells<F: LetteredField>(
     Ok(Counts { wrong, blank })
 }
 
-// Exactly one outcome meets the contract of a read.
+/// Exactly one outcome meets the contract of a read. The call does nothing: its clause is the
+/// theorem.
 pub fn one_reading()
     ensures { OneReading }
 {}

@@ -3,7 +3,8 @@ ghost use Rattle.std.specs.Prelude.{◌≡◌, ◌<◌, ◌≤◌, [], ◌∷◌
 
 use std::marker::Model;
 
-// The numbers stand in the first `len` places, and zeros after them.
+/// A list of at most `N` numbers, in an array of its own: it is copied as a value is, and needs no
+/// heap. The numbers stand in the first `len` places, and zeros after them.
 #[derive(Clone, Copy, Debug)]
 pub struct ShortList<const N: usize> {
     len: usize,
@@ -24,6 +25,7 @@ impl<const N: usize> Model for ShortList<N> {
 }
 
 impl<const N: usize> ShortList<N> {
+    /// The empty list.
     pub fn new() -> Self
         ensures { result ≡ [] }
     {
@@ -33,6 +35,7 @@ impl<const N: usize> ShortList<N> {
         }
     }
 
+    /// How many numbers the list holds.
     pub fn len(&self) -> usize
         ensures value { result ≡ length self.now }
         ensures fits { result ≤ N }
@@ -40,7 +43,7 @@ impl<const N: usize> ShortList<N> {
         self.as_slice().len()
     }
 
-    // Adds a number at the end.
+    /// Adds a number at the end of a list that holds fewer than `N`.
     pub fn push(&mut self, number: u32)
         requires { length self.old < N }
         ensures { self.new ≡ self.old ++ number ∷ [] }
@@ -49,6 +52,7 @@ impl<const N: usize> ShortList<N> {
         self.len += 1;
     }
 
+    /// The numbers that the list holds, without the zeros after them.
     pub fn as_slice(&self) -> &[u32]
         ensures value { result.now ≡ self.now }
         ensures fits { length result.now ≤ N }
@@ -56,7 +60,7 @@ impl<const N: usize> ShortList<N> {
         &self.places[..self.len]
     }
 
-    // The list of a slice's numbers.
+    /// The list of a slice's numbers, which are at most `N`.
     pub fn from_slice(numbers: &[u32]) -> Self
         requires { length numbers.now ≤ N }
         ensures { result ≡ numbers.now }

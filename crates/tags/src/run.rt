@@ -13,16 +13,18 @@ use codes::Card;
 use fields::LetteredField;
 use reading::{Counts, ReadRefusal};
 
-// A play has both, whichever way it ends.
+/// How a play ended. A play has both, whichever way it ends.
 #[derive(Clone, Copy, PartialEq, Eq, Debug)]
 pub struct Played {
-    // How many events were played: they stand in the first places of the journal.
+    /// How many events were played: they stand in the first places of the journal.
     pub events: usize,
-    // Whether the worker stopped; else the journal is full.
+    /// Whether the worker stopped; else the journal is full.
     pub stopped: bool,
 }
 
-// Opens a tag of the card and lets the worker work it until it stops or the journal is full.
+/// Opens a tag of the card and lets the worker work it until it stops or the journal is full. The
+/// journal's events are those of the calls that the worker picked, in order; its other places are
+/// left as they were.
 pub fn work_tag<'a, F: LetteredField, W: Worker<'a>>(
     card: &Card<F>,
     worker: &mut W,

@@ -22,7 +22,8 @@ impl<'a, 'b> Worker<'a> for Script<'a, 'b> {
     }
 }
 
-// Works a freshly opened tag by these calls, as many as the journal has places for.
+/// Works a freshly opened tag by these calls, as many as the journal has places for. The other
+/// places of the journal are left as they were.
 pub fn play_script<'a, F: LetteredField>(
     card: &Card<F>,
     calls: &[Call<'a>],

@@ -10,8 +10,9 @@ use crate::tag::table::Table;
 use codes::Card;
 use fields::LetteredField;
 
-// The tag's cells stand in the first places of the table, one for each locator of the card, and the other places are never
-// read. Every noted letter is one of the alphabet.
+/// A tag of a checked card: n cells, each of which holds a letter or is blank. The tag's cells
+/// stand in the first places of the table, one for each locator of the card, and the other places
+/// are never read. Every noted letter is one of the alphabet.
 #[derive(Drop)]
 pub struct Tag<'a, F: LetteredField> {
     card: &'a Card<F>,

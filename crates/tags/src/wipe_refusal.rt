@@ -4,13 +4,16 @@ ghost use Rattle.tags.specs.Tags.{wipe_number};
 
 use thiserror::Error;
 
+/// Why a wipe is refused.
 #[derive(Clone, Copy, PartialEq, Eq, Debug, Error)]
 pub enum WipeRefusal {
+    /// The cell is not from 1 to n.
     #[error("no such cell")]
     NoSuchCell = 21,
 }
 
 impl WipeRefusal {
+    /// The refusal's number.
     pub fn number(self) -> u32
         ensures { result ≡ wipe_number self }
     {

@@ -6,12 +6,13 @@ ghost use Rattle.tags.specs.declared.event.Event.{Event as Happened};
 use crate::call::Call;
 use crate::event::Event;
 
+/// Who works a tag: code of which nothing is assumed. It picks the calls of a run.
 pub trait Worker<'a> {
-    // What this worker may pick after these events, and the worker that it then is. Anything may be allowed here: what it says is
-    // known of the worker's runs.
+    // What this worker may pick after these events, and the worker that it then is. Anything may be
+    // allowed here: what it says is known of the worker's runs.
     ghost picks: { Self → List Happened → Maybe Asked → Self → Type 0 };
 
-    // The next call, in view of all events so far, or nothing to stop.
+    /// The next call, in view of all events so far, or nothing to stop.
     fn pick(&mut self, journal: &[Event<'a>]) -> Option<Call<'a>>
         ensures { picks self.old journal.now result self.new };
 }

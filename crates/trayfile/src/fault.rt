@@ -5,13 +5,18 @@ ghost use Rattle.trayfile.specs.Faults.{fault_number, fault_at, number_fault, bo
 use faults::{BodyFault, FileCause, Layer};
 use numbers::NumberCause;
 
+/// Why a file is refused, and where.
 #[derive(Clone, Copy)]
 pub struct Fault {
+    /// Counts the file's bytes from 0: for 32 the bad number's first byte, for 37 zero, for all
+    /// else the record's first byte.
     pub place: usize,
+    /// The layer that refuses, with the cause.
     pub layer: Layer,
 }
 
 impl Fault {
+    /// The fault's number.
     pub fn number(self) -> u32
         ensures { result ≡ fault_number self }
     {
@@ -29,7 +34,8 @@ pub fn file_fault(place: usize, cause: FileCause) -> Fault
     }
 }
 
-// A number that is not there: the file is cut off at the record, or the number is bad where it begins.
+// A number that is not there: the file is cut off at the record, or the number is bad where it
+// begins.
 pub fn placed_number(record: usize, number: usize, cause: NumberCause) -> Fault
     ensures { result ≡ number_fault «record» number cause }
 {

@@ -17,7 +17,8 @@ pub struct Header {
     pub end: usize,
 }
 
-// Checks go from left to right: the kind, whether it is in turn, the length, whether the body is there.
+// Checks go from left to right: the kind, whether it is in turn, the length, whether the body is
+// there.
 pub fn read_header(file: &[u8], place: usize, turn: Turn) -> Result<Header, Fault>
     ensures { HeaderRead turn place (drop place file.now) result }
 {

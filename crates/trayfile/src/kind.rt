@@ -4,7 +4,7 @@ ghost use Rattle.trayfile.specs.Kinds.{kind_number, KindNamed};
 
 use thiserror::Error;
 
-// Each kind has the number that names it in a file.
+/// The kinds of records. Each kind has the number that names it in a file.
 #[derive(Clone, Copy, PartialEq, Eq, Debug)]
 pub enum Kind {
     Card = 1,
@@ -12,12 +12,13 @@ pub enum Kind {
     Note = 3,
 }
 
-// No kind has the number.
+/// No kind has the number. Where a record has it, the fault is 33.
 #[derive(Clone, Copy, PartialEq, Eq, Debug, Error)]
 #[error("strange record")]
 pub struct NoSuchKind;
 
 impl Kind {
+    /// The kind's number.
     pub fn number(self) -> u32
         ensures { result ≡ kind_number self }
     {

@@ -4,6 +4,7 @@ mod answers;
 use crate::fault::Fault;
 use crate::turn::Turn;
 
+/// A reader over a file's bytes, which answers one record after another. The bytes may be any.
 #[derive(Clone, Copy)]
 pub struct TrayReader<'a> {
     file: &'a [u8],

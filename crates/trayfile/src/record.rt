@@ -4,6 +4,7 @@ ghost use Rattle.trayfile.specs.Entries.{entry, entry_of};
 
 use crate::kind::Kind;
 
+/// A record, which holds the part of the file that is its body, without its kind and length.
 #[derive(Clone, Copy)]
 pub enum Record<'a> {
     Card(&'a [u8]),

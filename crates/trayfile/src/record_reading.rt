@@ -10,7 +10,8 @@ use crate::turn::{Task, Turn};
 use bodies::{check_cells, is_plain, read_card, shape_of_any};
 use faults::BodyFault;
 
-// A record's kind, the places of its body's first byte and after its last, and what is in turn then.
+// A record's kind, the places of its body's first byte and after its last, and what is in turn
+// then.
 #[derive(Clone, Copy)]
 pub struct Step {
     pub kind: Kind,

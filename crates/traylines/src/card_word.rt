@@ -10,7 +10,7 @@ use codes::AnyCard;
 use faults::BodyFault;
 use thiserror::Error;
 
-// The card's body is refused, or the word is not read under the card.
+/// The card's body is refused, or the word is not read under the card.
 #[derive(Clone, Copy, PartialEq, Eq, Debug, Error)]
 pub enum UnderRefusal {
     #[error(transparent)]
@@ -19,6 +19,8 @@ pub enum UnderRefusal {
     Word(WordRefusal),
 }
 
+/// Reads the word that a cells record's body means under the card that stands in another record's
+/// body. Refused as `bodies::read_card` refuses the card's body, and then as `read_word` is.
 pub fn word_under(card_body: &[u8], body: &[u8]) -> Result<WordRead, UnderRefusal>
     ensures { UnderFound card_body.now body.now result }
 {

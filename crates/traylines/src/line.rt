@@ -8,7 +8,8 @@ use reading::ReadRefusal;
 use std::fmt;
 use trayfile::Fault;
 
-// A cells record that reads: its place, how many cells are wrong and how many blank, and the word.
+/// A cells record that reads: its place in bytes from 0, how many cells are wrong and how many
+/// blank, and the word.
 #[derive(Clone, Copy)]
 pub struct ReadLine<'a> {
     pub place: usize,
@@ -17,21 +18,21 @@ pub struct ReadLine<'a> {
     pub word: Word<'a>,
 }
 
-// A cells record that does not read, and why.
+/// A cells record that does not read, and why. Its place counts bytes from 0.
 #[derive(Clone, Copy)]
 pub struct LostLine {
     pub place: usize,
     pub refusal: ReadRefusal,
 }
 
-// How many cells records read, and how many do not.
+/// How many cells records read, and how many do not.
 #[derive(Clone, Copy)]
 pub struct EndLine {
     pub read: usize,
     pub lost: usize,
 }
 
-// The fault that ends the file.
+/// The fault that ends the file.
 #[derive(Clone, Copy)]
 pub struct FaultLine {
     pub fault: Fault,

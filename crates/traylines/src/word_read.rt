@@ -3,7 +3,7 @@ use algebra::LARGEST_CELLS;
 use reading::Counts;
 use shortlist::ShortList;
 
-// The word, and how many cells are wrong and how many blank.
+/// The word, and how many cells are wrong and how many blank.
 #[derive(Clone, Copy)]
 pub struct WordRead {
     pub counts: Counts,

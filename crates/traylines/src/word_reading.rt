@@ -14,7 +14,7 @@ use reading::ReadRefusal;
 use shortlist::ShortList;
 use thiserror::Error;
 
-// The body is not that of cells under the card, or the cells do not read.
+/// The body is not that of cells under the card, or the cells do not read.
 #[derive(Clone, Copy, PartialEq, Eq, Debug, Error)]
 pub enum WordRefusal {
     #[error(transparent)]
@@ -23,13 +23,17 @@ pub enum WordRefusal {
     Unread(ReadRefusal),
 }
 
+/// Reads the word that a cells record's body means under its card: the near codeword, and its
+/// counts. Refused with 32, 35 or 22 as `bodies::read_cells` refuses the body, then with 23 or 24
+/// as the cells do not read.
 pub fn read_word<F: LetteredField>(card: &Card<F>, body: &[u8]) -> Result<WordRead, WordRefusal>
     ensures { WordFound (F.Field.meaning card.now.field).arithmetic (card_code card.now) body.now result }
 {
     let count = card.cells();
     let mut cells = [Cell::blank(); LARGEST_CELLS];
     let cells = &mut cells[..count];
-    // No `?`: the buffer has the right length, so one of the two refusals has no place in the answer.
+    // No `?`: the buffer has the right length, so one of the two refusals has no place in the
+    // answer.
     match bodies::read_cells(card, body, cells) {
         Ok(()) => {}
         Err(CellsRefusal::WrongLength) => unreachable(),

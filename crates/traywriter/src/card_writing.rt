@@ -13,6 +13,9 @@ use codes::{AnyCard, CodeRef};
 use fields::{BinaryField, LetteredField, PrimeField};
 use trayfile::Kind;
 
+/// Puts the record of a card at the front of a buffer, leaves the rest of the buffer, and answers
+/// how many bytes the record has. Refused with 38 where the buffer is too small. It is then as it
+/// was.
 pub fn write_card(card: &AnyCard, buffer: &mut [u8]) -> Result<usize, WriteRefusal>
     ensures written { CardWritten card.now buffer.old buffer.new result }
     ensures back { CardComesBack card.now }
@@ -30,7 +33,8 @@ pub fn write_card(card: &AnyCard, buffer: &mut [u8]) -> Result<usize, WriteRefus
     }
 }
 
-// A card's values, over a field of this kind, made from `origin`. The kind is a number, since each kind of field states its own.
+// A card's values, over a field of this kind, made from `origin`. The kind is a number, since each
+// kind of field states its own.
 fn write_values(
     kind: u32,
     origin: u32,

@@ -15,6 +15,10 @@ use codes::{Card, Cell, lettered};
 use fields::LetteredField;
 use trayfile::Kind;
 
+/// Puts the record of n cells under their card at the front of a buffer, leaves the rest of the
+/// buffer, and answers how many bytes the record has. Refused with 25 where the cells are not n,
+/// then 22 where a noted one holds no letter of the alphabet, then 38 where the buffer is too
+/// small. It is then as it was. Whether cells are in turn is not asked.
 pub fn write_cells<F: LetteredField>(
     card: &Card<F>,
     cells: &[Cell],

@@ -8,6 +8,10 @@ use crate::write_refusal::WriteRefusal;
 use bodies::is_plain;
 use trayfile::Kind;
 
+/// Puts the record of a note at the front of a buffer, leaves the rest of the buffer, and answers
+/// how many bytes the record has. Refused with 36 where the note has more than 200 bytes or a byte
+/// outside 32 to 126, then 38 where the buffer is too small. It is then as it was. Whether a note
+/// is in turn is not asked.
 pub fn write_note(note: &[u8], buffer: &mut [u8]) -> Result<usize, WriteRefusal>
     ensures written { NoteWritten note.now buffer.old buffer.new result }
     ensures back { OnOk result (NoteComesBack note.now) }

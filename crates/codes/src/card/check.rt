@@ -14,8 +14,11 @@ use arrayvec::ArrayVec;
 use fields::{Field, LetteredField};
 
 impl<F: LetteredField + Drop> Card<F> {
-    // The card with these values, or the first rule that they break. That the field is accepted is asked for here and is no law of
-    // the trait: a field type may have values that no maker checked.
+    /// The card with these values, or the first rule that they break. That the field is accepted is
+    /// asked for here and is no law of the trait: a field type may have values that no maker
+    /// checked. Refused with 13 where the sizes do not fit or the lists differ in length, then 14
+    /// where the field does not admit the alphabet size, then 15 where a locator is no element or
+    /// stands twice, then 16 where a multiplier is 0 or no element.
     pub fn check(field: F, code: CodeRef<'_>) -> Result<Card<F>, CardCause>
         requires { F.Field.accepted field }
         ensures { CardMade (F.Field.meaning field) field (code_of code.entry) result }
@@ -43,20 +46,21 @@ impl<F: LetteredField + Drop> Card<F> {
 }
 
 impl<F: LetteredField> Card<F> {
+    /// The card's field.
     pub fn field(&self) -> &F
         ensures { result.now ≡ self.now.field }
     {
         &self.field
     }
 
-    // How many cells the card has: one for each locator.
+    /// How many cells the card has: one for each locator.
     pub fn cells(&self) -> usize
         ensures { result ≡ length (card_code self.now).locators }
     {
         self.locators.len()
     }
 
-    // The card's code over its field.
+    /// The card's code over its field.
     pub fn over(&self) -> CodeOver<'_, F>
         ensures field { result.field.now ≡ self.now.field }
         ensures values { code_of result.code ≡ card_code self.now }
@@ -67,6 +71,7 @@ impl<F: LetteredField> Card<F> {
         }
     }
 
+    /// The card's plain values, lent.
     pub fn code(&self) -> CodeRef<'_>
         ensures { code_of result ≡ card_code self.now }
     {
@@ -79,7 +84,8 @@ impl<F: LetteredField> Card<F> {
     }
 }
 
-// May a card have so many cells and rows?
+/// May a card have so many cells and rows? Yes for 2 to 256 cells and 1 to 64 rows, if there are
+/// fewer rows than cells.
 pub fn sizes_fit(cells: usize, rows: usize) -> bool
     ensures { Decides result (Sizes cells rows) }
 {

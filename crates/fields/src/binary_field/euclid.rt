@@ -6,8 +6,8 @@ ghost use Rattle.fields.specs.Irreducible.{Irreducible};
 
 use crate::binary_field::polynomial::degree_of;
 
-// The polynomial that times `a` makes 1 modulo `f`. A turn that does not swap lowers the degree of `u`, and no two swaps
-// follow one another, so the turns are at most 4 × the degree of `f`.
+// The polynomial that times `a` makes 1 modulo `f`. A turn that does not swap lowers the degree of
+// `u`, and no two swaps follow one another, so the turns are at most 4 × the degree of `f`.
 pub fn inverse(a: u32, f: u32) -> u32
     requires irreducible { Irreducible f }
     requires positive { 0 < a }

@@ -1,7 +1,8 @@
 // What the definitions on polynomials are held to.
 ghost use Rattle.fields.specs.PolynomialLaws.{CarrylessRing, DivisionLaw, PolynomialExamples};
 
-// Asks for the proofs; it does nothing.
+/// The laws of products and remainders of polynomials over two elements, and examples. The call
+/// does nothing: its clauses are the laws.
 pub fn polynomial_laws()
     ensures ring { CarrylessRing }
     ensures division { DivisionLaw }

@@ -12,7 +12,8 @@ use algebra::LARGEST_SIZE;
 const LARGEST_MODULUS: u32 = 2 * LARGEST_SIZE - 1;
 
 impl BinaryField {
-    // The field of polynomials modulo `modulus`, refused unless that is irreducible and not too large.
+    /// The field of polynomials modulo `modulus`, whose bit i is the coefficient of X^i. Refused
+    /// with 12 unless the modulus lies from 2 to 511 and is irreducible.
     pub fn new(modulus: u32) -> Result<BinaryField, FieldCause>
         ensures { BinaryFieldMade modulus result }
     {
@@ -25,7 +26,7 @@ impl BinaryField {
         })
     }
 
-    // The modulus that the field was made from.
+    /// The modulus that the field was made from.
     pub fn modulus(&self) -> u32
         ensures { result ≡ self.now.modulus }
     {

@@ -3,8 +3,8 @@ ghost use Rattle.std.specs.Prelude.{◌≡◌, ℕ, ◌*◌, ◌^◌, ◌<◌};
 ghost use Rattle.fields.specs.CarrylessProduct.{◌⊗◌};
 ghost use Rattle.fields.specs.LongDivision.{Degree, remainder};
 
-// The degree of `a`, which is not 0. A number and no `NonZero`: callers know it from a test or a clause, and would have
-// to wrap it at each call.
+// The degree of `a`, which is not 0. A number and no `NonZero`: callers know it from a test or a
+// clause, and would have to wrap it at each call.
 pub fn degree_of(a: u32) -> u32
     requires { 0 < a }
     ensures degree { Degree a result }

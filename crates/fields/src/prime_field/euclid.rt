@@ -2,8 +2,8 @@
 ghost use Rattle.std.specs.Prelude.{◌≡◌, ◌*◌, ◌%◌, ◌^◌, ◌<◌, ◌≤◌};
 ghost use Rattle.fields.specs.Modulo.{Prime};
 
-// The b below p with a × b = 1 modulo p, in O(log p) steps. The binary kind has a loop of its own: it has no quotients, it shifts
-// and adds, so one loop over both would hide the steps of each.
+// The b below p with a × b = 1 modulo p, in O(log p) steps. The binary kind has a loop of its own:
+// it has no quotients, it shifts and adds, so one loop over both would hide the steps of each.
 pub fn inverse(p: u32, a: u32) -> u32
     requires prime { Prime p }
     requires small { p ≤ 2 ^ 16 }

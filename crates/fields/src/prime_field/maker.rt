@@ -9,7 +9,8 @@ use crate::prime_field::PrimeField;
 const PRIMES: [u32; 13] = [2, 3, 5, 7, 11, 13, 17, 19, 23, 29, 31, 37, 251];
 
 impl PrimeField {
-    // The field modulo `prime`, refused unless it is one of the listed primes.
+    /// The field modulo `prime`. Refused with 11 unless that is one of the listed primes: those up
+    /// to 37, and 251.
     pub fn new(prime: u32) -> Result<PrimeField, FieldCause>
         ensures { PrimeFieldMade prime result }
     {
@@ -20,7 +21,7 @@ impl PrimeField {
         }
     }
 
-    // The prime that the field was made from.
+    /// The prime that the field was made from.
     pub fn prime(&self) -> u32
         ensures { result ≡ self.now.prime }
     {

@@ -12,8 +12,8 @@ use codes::{Card, Cell, add_powers, all_zero};
 use fields::{Field, LetteredField, all_below};
 use filling::write_letters;
 
-// Writes the filled cells into `word`, and puts the parts of the letters at the blank cells into the sums, which then are those of
-// the word.
+// Writes the filled cells into `word`, and puts the parts of the letters at the blank cells into
+// the sums, which then are those of the word.
 pub fn fill_candidate<F: LetteredField>(
     card: &Card<F>,
     cells: &[Cell],

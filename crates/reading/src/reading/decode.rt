@@ -13,7 +13,8 @@ use codes::Cell;
 use fields::LetteredField;
 
 impl<'a, F: LetteredField> FoundCells<'a, F> {
-    // Writes the near codeword into `word` and answers how many cells are wrong, or nothing where no codeword is near.
+    // Writes the near codeword into `word` and answers how many cells are wrong, or nothing where
+    // no codeword is near.
     pub fn decode(&self, word: &mut [u32]) -> Option<usize>
         requires lettered { Lettered (card_code self.now.card.now).letters self.now.cells.now }
         requires room { length word.old ≡ length (card_code self.now.card.now).locators }
@@ -31,7 +32,8 @@ impl<'a, F: LetteredField> FoundCells<'a, F> {
         }
         let mut left: ArrayVec<Cell, LARGEST_CELLS> = ArrayVec::try_from(self.cells).unwrap();
         let left = left.as_mut_slice();
-        // From here on only the erased cells are gone through row by row: an erased letter's part leaves the sums, a filled one's comes in.
+        // From here on only the erased cells are gone through row by row: an erased letter's part
+        // leaves the sums, a filled one's comes in.
         erase_roots(self.card, &locator[..degree + 1], left, row_sums);
         fill_candidate(self.card, left, row_sums, word);
         self.accept(word, row_sums)

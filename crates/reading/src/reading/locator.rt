@@ -15,7 +15,8 @@ use filling::{Polynomial, blank_annihilator};
 use pairs::realise;
 
 impl<'a, F: LetteredField> FoundCells<'a, F> {
-    // Writes the error locator into `locator`, as `realise` writes it, and answers its degree. `sums` has the syndromes of the cells.
+    // Writes the error locator into `locator`, as `realise` writes it, and answers its degree.
+    // `sums` has the syndromes of the cells.
     pub fn error_locator(&self, sums: &[u32], locator: &mut [u32]) -> usize
         requires summed { sums.now ≡ syndromes (F.Field.meaning self.now.card.now.field).arithmetic (card_code self.now.card.now) self.now.cells.now }
         requires room { length locator.old ≡ coefficients }
@@ -34,7 +35,8 @@ impl<'a, F: LetteredField> FoundCells<'a, F> {
     }
 }
 
-// Writes into `modified` what the polynomial gives when it is applied to the sums, from each row on.
+// Writes into `modified` what the polynomial gives when it is applied to the sums, from each row
+// on.
 fn modified_sums<F: Field>(field: &F, product: &Polynomial, sums: &[u32], modified: &mut [u32])
     requires { length modified.old + degree_of product.now ≤ length sums.now }
     ensures { (k : ℕ) → k < length modified.new → slice_index modified.new k ≡ act (F.Field.meaning field.now).arithmetic (coefficients_of product.now) (number_at sums.now) k }
@@ -44,8 +46,8 @@ fn modified_sums<F: Field>(field: &F, product: &Polynomial, sums: &[u32], modifi
     }
 }
 
-// The sum of coefficient i × sum i, over all coefficients. It adds from the highest down, as its definition does for every field; the
-// sum of `pairs` adds from the lowest up.
+// The sum of coefficient i × sum i, over all coefficients. It adds from the highest down, as its
+// definition does for every field; the sum of `pairs` adds from the lowest up.
 fn apply<F: Field>(field: &F, product: &Polynomial, sums: &[u32]) -> u32
     requires { degree_of product.now < length sums.now }
     ensures { result ≡ act (F.Field.meaning field.now).arithmetic (coefficients_of product.now) (number_at sums.now) 0 }

@@ -8,9 +8,11 @@ ghost use Rattle.reading.specs.Erasing.{erased};
 use codes::{Card, Cell, add_powers};
 use fields::{Field, LetteredField};
 
-// Cells and sums change turn by turn, so no struct can keep that they fit: each contract says it, as `long` and `summed`.
+// Cells and sums change turn by turn, so no struct can keep that they fit: each contract says it,
+// as `long` and `summed`.
 
-// Makes the cells blank whose locator is a root of the polynomial, and takes their letters' parts out of the sums.
+// Makes the cells blank whose locator is a root of the polynomial, and takes their letters' parts
+// out of the sums.
 pub fn erase_roots<F: LetteredField>(
     card: &Card<F>,
     polynomial: &[u32],
@@ -24,7 +26,8 @@ pub fn erase_roots<F: LetteredField>(
 {
     let field = card.field();
     let code = card.code();
-    // A zip on `iter_mut` tells a proof nothing of what is written, so the other lists are read at the index.
+    // A zip on `iter_mut` tells a proof nothing of what is written, so the other lists are read at
+    // the index.
     for (j, cell) in cells.iter_mut().enumerate() {
         if let Some(letter) = cell.letter {
             if value_at(field, polynomial, code.locators[j]) == 0 {

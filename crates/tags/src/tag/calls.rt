@@ -17,9 +17,10 @@ use fields::LetteredField;
 use lines::{LineRefusal, read_line};
 use reading::{Counts, ReadRefusal, read_cells};
 
-// Each change says in `card` that the tag is still one of its card: a relation of both ends, which no invariant can hold.
+// Each change says in `card` that the tag is still one of its card: a relation of both ends, which
+// no invariant can hold.
 impl<'a, F: LetteredField> Tag<'a, F> {
-    // A tag of the card, every cell blank.
+    /// A tag of the card, every cell blank.
     pub fn open(card: &'a Card<F>) -> Tag<'a, F>
         ensures same { result.card.now ≡ card.now }
         ensures blank { tag_cells result ≡ blank_sheet (card_code card.now) }
@@ -32,7 +33,9 @@ impl<'a, F: LetteredField> Tag<'a, F> {
         }
     }
 
-    // Puts a letter into one cell.
+    /// Puts a letter into one cell, and touches no other. Cells are numbered from 1. Refused with
+    /// 21 where there is no such cell, then 22 where the value is no letter. The tag is then as it
+    /// was.
     pub fn note(&mut self, cell: usize, letter: u32) -> Result<(), NoteRefusal>
         ensures answer { refused note_number result ≡ refusal_of_note (tag_code self.old) cell letter }
         ensures cells { tag_cells self.new ≡ after_note (tag_code self.old) cell letter (tag_cells self.old) }
@@ -46,7 +49,8 @@ impl<'a, F: LetteredField> Tag<'a, F> {
         Ok(())
     }
 
-    // Makes one cell blank.
+    /// Makes one cell blank, and touches no other. Cells are numbered from 1. Refused with 21 where
+    /// there is no such cell. The tag is then as it was.
     pub fn wipe(&mut self, cell: usize) -> Result<(), WipeRefusal>
         ensures answer { refused wipe_number result ≡ refusal_of_wipe (tag_code self.old) cell }
         ensures cells { tag_cells self.new ≡ after_wipe (tag_code self.old) cell (tag_cells self.old) }
@@ -57,7 +61,9 @@ impl<'a, F: LetteredField> Tag<'a, F> {
         Ok(())
     }
 
-    // Sets all cells from a line of as many marks.
+    /// Sets all n cells from a line of n marks (characters, not bytes). Refused with 25 where the
+    /// line has another length, then 28 where the alphabet has more than 37 letters or a mark is no
+    /// letter of it and no '?'. The tag is then as it was.
     pub fn line(&mut self, line: &str) -> Result<(), LineRefusal>
         ensures marks { LineRead (tag_code self.old).letters (chars line.now) (tag_cells self.old) (tag_cells self.new) result }
         ensures answer { refused line_number result ≡ refusal_of_line (tag_code self.old) (chars line.now) }
@@ -69,14 +75,18 @@ impl<'a, F: LetteredField> Tag<'a, F> {
         read_line(line, letters, &mut self.table.cells[0..width])
     }
 
-    // Writes into `buffer` the sum of each row over the noted cells.
+    /// Writes into `buffer`, of r numbers, the sum of each row over the noted cells. Refused with
+    /// 25 where the buffer has another length. It is then as it was.
     pub fn sums(&self, buffer: &mut [u32]) -> Result<(), SumsRefusal>
         ensures { TagSummed (F.Field.meaning self.now.card.now.field).arithmetic (tag_code self.now) (tag_cells self.now) buffer.old buffer.new result }
     {
         self.card.over().sums(self.cells(), buffer)
     }
 
-    // Writes the near codeword into `word`, and answers how many cells are wrong and how many are blank.
+    /// Writes the near codeword into `word`, a buffer of n numbers, and answers how many cells are
+    /// wrong and how many are blank. Refused with 25 where the buffer has another length, then 23
+    /// where more cells are blank than the card has rows, then 24 where no codeword is near. The
+    /// buffer is then as it was.
     pub fn read(&self, word: &mut [u32]) -> Result<Counts, ReadRefusal>
         ensures { Reading (F.Field.meaning self.now.card.now.field).arithmetic (tag_code self.now) (tag_cells self.now) word.old word.new result }
     {

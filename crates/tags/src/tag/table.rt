@@ -5,7 +5,8 @@ ghost use Rattle.algebra.specs.Limits.{largest_cells};
 use algebra::LARGEST_CELLS;
 use codes::Cell;
 
-// A plain table of fixed size, and no vector: how many of its cells are the tag's own is the card's to say.
+// A plain table of fixed size, and no vector: how many of its cells are the tag's own is the card's
+// to say.
 #[derive(Drop)]
 pub(crate) struct Table {
     pub(crate) cells: [Cell; LARGEST_CELLS],

@@ -12,7 +12,8 @@ use crate::turn::Turn;
 use faults::FileCause;
 
 impl<'a> TrayReader<'a> {
-    // A reader at the file's first byte. A file that is too long has its fault at once.
+    /// A reader at the file's first byte. A file of more than 60,000 bytes has its fault, 37, at
+    /// once.
     pub fn new(file: &'a [u8]) -> TrayReader<'a>
         ensures { Opened file.now result }
     {
@@ -26,15 +27,15 @@ impl<'a> TrayReader<'a> {
         }
     }
 
-    // Where the next record begins.
+    /// Where the next record begins, in the file's bytes from 0. A fault leaves it where it was.
     pub fn place(&self) -> usize
         ensures { result ≡ self.now.place }
     {
         self.place
     }
 
-    // The next record, nothing at the file's end, or a fault, which is repeated ever after. No `Iterator`: a fault has no end, and the
-    // place is asked for between two records.
+    /// The next record, nothing at the file's end, or a fault, which is repeated ever after. No
+    /// `Iterator`: a fault has no end, and the place is asked for between two records.
     pub fn next(&mut self) -> Option<Result<Record<'a>, Fault>>
         ensures step { Next self.old result self.new }
         ensures runs { EveryRun }

@@ -10,6 +10,7 @@ use crate::word_reading::WordRefusal;
 use trayfile::{Record, TrayReader};
 
 impl<'a> FileLines<'a> {
+    /// At the file's first byte, with nothing read.
     pub fn new(file: &'a [u8]) -> FileLines<'a>
         ensures { Fresh file.now result }
     {
@@ -20,7 +21,8 @@ impl<'a> FileLines<'a> {
         }
     }
 
-    // Reads one record more, and tells what is to be said of it.
+    /// Reads one record more, and tells what is to be said of it. After the end or a fault it tells
+    /// the same again.
     pub fn step(&mut self) -> Step
         ensures { Stepped self.old result self.new }
     {
@@ -57,7 +59,7 @@ impl<'a> FileLines<'a> {
 }
 
 impl Step {
-    // Whether the file has more to tell.
+    /// Whether the file has more to tell.
     pub fn goes_on(self) -> bool
         ensures { result ≡ goes_on self }
     {
