@@ -1,4 +1,4 @@
--- Polynomials of numbers applied to a sequence. Assumes nothing.
+-- Polynomials of numbers applied to a sequence.
 use Rattle.std.proofs.Common.{◌≡◌, ℕ, suc, ◌+◌, ◌≤◌, List, map, length, get_or, take, sym, ap, ◌∙◌, arith}
 use lib.ListN.{length-map}
 use Rattle.std.proofs.lemmas.List.{get_or-take}

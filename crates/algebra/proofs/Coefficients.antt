@@ -1,4 +1,4 @@
--- Lists of numbers whose coefficients are elements. Assumes nothing.
+-- Lists of numbers whose coefficients are elements.
 use Rattle.std.proofs.Common.{ℕ, List, length, get_or, ⊎_elim, arith}
 use Rattle.std.proofs.lemmas.List.{get_or_past}
 use Rattle.std.proofs.lemmas.Bool.{cases_lt}

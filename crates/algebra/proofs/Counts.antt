@@ -1,4 +1,4 @@
--- Counts of the places below n where a test fails, and the list of these places. Assumes nothing.
+-- Counts of the places below n where a test fails, and the list of these places.
 use Rattle.std.proofs.Common.{◌≡◌, ℕ, zero, suc, ◌+◌, ◌<◌, ◌≤◌, Bool, true, false, cond, not, eqb, ◌⊎◌, List, [], ◌∷◌, length, sym, refl, ap, ◌∙◌, inl, inr, arith}
 use Rattle.std.proofs.lemmas.Bool.{cases_eq, both_ways, eqb-false, ne_eqb, not_from_false, not-true, cond-true}
 use Rattle.algebra.specs.Places.{Member, Distinct, member, failures, failing}

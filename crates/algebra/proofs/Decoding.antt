@@ -1,4 +1,4 @@
--- The theorems about errors and erasures (specs/ErrorLocators.antt), carried from the field of elements. Assumes nothing.
+-- The theorems about errors and erasures (specs/ErrorLocators.antt), carried from the field of elements.
 use Rattle.std.proofs.Common.{◌≡◌, ℕ, suc, ◌+◌, ◌*◌, ◌<◌, ◌≤◌, Bool, true, false, cond, not, ◌&&◌, eqb, List, map, length, sym, refl, ap, ◌∙◌, inl, inr, arith}
 use native.Mathlib.Decide.{ℕ_discrete}
 use lib.ListN.{length-map}

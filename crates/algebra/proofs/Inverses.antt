@@ -1,4 +1,4 @@
--- The inverse laws, from the ring's laws and an inverse for each element other than 0. Assumes nothing.
+-- The inverse laws, from the ring's laws and an inverse for each element other than 0.
 use Rattle.std.proofs.Common.{◌≡◌, ℕ, zero, suc, ◌<◌, Bool, true, false, cond, eqb, ◌⊎◌, Some, None, Option, refl, ap, ◌∙◌, inl, inr, ⊎_elim, arith}
 use Rattle.std.proofs.lemmas.Bool.{eqb-true, eq-eqb, ne_eqb, cases_eq, cond-true, cond-false, both_ways}
 use Rattle.algebra.specs.Meaning.{Arithmetic, first, or_else, inverse_in, with_inverses}

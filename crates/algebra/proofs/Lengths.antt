@@ -1,4 +1,4 @@
--- Lengths of the polynomials on numbers, and that every answer is an element. Assumes nothing.
+-- Lengths of the polynomials on numbers, and that every answer is an element.
 use Rattle.std.proofs.Common.{◌≡◌, ℕ, zero, suc, pred, ◌<◌, List, [], ◌∷◌, length, refl, ap, ◌∙◌, arith}
 use Rattle.algebra.specs.Meaning.{Arithmetic}
 use Rattle.algebra.specs.Laws.{Total}

@@ -1,5 +1,5 @@
 -- Remainders after division by a modulus that has no factors make a field, with one inverse for each element other
--- than 0: said once, for whole numbers and for polynomials. Assumes nothing.
+-- than 0: said once, for whole numbers and for polynomials.
 use Rattle.std.proofs.Common.{◌≡◌, ℕ, zero, suc, ◌<◌, ◌≤◌, sym, ap, ◌∙◌, ap₂, ⊎_elim, arith}
 use mathlib.Core.Path.{subst⁻¹}
 use Rattle.std.proofs.lemmas.Bool.{cases_eq}

@@ -1,4 +1,4 @@
--- The theorems about numbers (specs/Theorems.antt), carried from the ring or field of elements. Assumes nothing.
+-- The theorems about numbers (specs/Theorems.antt), carried from the ring or field of elements.
 use Rattle.std.proofs.Common.{◌≡◌, ℕ, zero, suc, ◌+◌, ◌<◌, ◌≤◌, Bool, true, false, cond, eqb, List, map, length, get_or, sym, refl, ap, ◌∙◌, ap₂, inl, inr, arith}
 use native.Mathlib.Decide.{dec_lt}
 use lib.ListN.{length-map}

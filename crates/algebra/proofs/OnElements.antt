@@ -1,4 +1,4 @@
--- Operations that answer 0 outside the elements. Assumes nothing.
+-- Operations that answer 0 outside the elements.
 use Rattle.std.proofs.Common.{◌≡◌, ℕ, ◌<◌, ◌≤◌, ltb, ◌⊎◌, inl, inr, ⊎_elim}
 use mathlib.Core.Path.{subst⁻¹}
 use Rattle.std.proofs.lemmas.Bool.{lt-ltb, le-ltb, cases_lt, and_from, and_left, and_right, cond-true, cond-false}

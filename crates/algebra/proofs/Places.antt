@@ -1,4 +1,4 @@
--- Facts about lists of places. Assumes nothing.
+-- Facts about lists of places.
 use Rattle.std.proofs.Common.{◌≡◌, ℕ, zero, suc, ◌<◌, true, false, eqb, ◌⊎◌, List, [], ◌∷◌, map, length, sym, refl, ap, ◌∙◌, subst, inl, inr, arith}
 use Rattle.std.proofs.lemmas.Bool.{eq-eqb, ne_eqb, both_ways, cases_Bool, cases_eq, cond-true, cond-false}
 use Rattle.algebra.specs.Places.{Member, Distinct, member, without}

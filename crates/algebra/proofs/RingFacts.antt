@@ -1,4 +1,4 @@
--- What the laws of a ring give for its elements. Assumes nothing.
+-- What the laws of a ring give for its elements.
 use Rattle.std.proofs.Common.{◌≡◌, ℕ, zero, suc, ◌<◌, sym, refl, ap, ◌∙◌, ap₂, arith}
 use Rattle.algebra.specs.Meaning.{Arithmetic}
 use Rattle.algebra.specs.Laws.{Total, RingLaws}

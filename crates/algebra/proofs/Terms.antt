@@ -1,4 +1,4 @@
--- Sums and actions see only the terms that count. Assumes nothing.
+-- Sums and actions see only the terms that count.
 use Rattle.std.proofs.Common.{◌≡◌, ℕ, zero, suc, ◌+◌, ◌<◌, List, [], ◌∷◌, length, refl, ap₂, add-zero, add-suc, suc-add, arith}
 use Rattle.algebra.specs.Meaning.{Arithmetic}
 use Rattle.algebra.specs.Power.{sum}

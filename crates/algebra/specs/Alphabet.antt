@@ -1,9 +1,9 @@
--- Which numbers may be letters. Assumes nothing.
+-- Which numbers may be letters.
 use Rattle.std.specs.Prelude.{ℕ, ◌<◌, ◌≤◌}
 use Rattle.algebra.specs.Meaning.{Arithmetic}
 
--- The numbers below `letters` are an alphabet when there are at least two of them, all are elements, and every sum,
--- difference and product of two of them is one of them.
+-- The numbers below `letters` are an alphabet when there are at least two of them, all are
+-- elements, and every sum, difference and product of two of them is one of them.
 pub record Alphabet (A : Arithmetic) (letters : ℕ) : Type 0 where
   pub two : 2 ≤ letters
   pub elements : letters ≤ A.size

@@ -1,4 +1,4 @@
--- The laws of a field, in named parts. Assumes nothing.
+-- The laws of a field, in named parts.
 use Rattle.std.specs.Prelude.{◌≡◌, ℕ, ◌<◌, ◌≤◌, ◌⊎◌, Some, None, ◌≢◌}
 use Rattle.algebra.specs.Limits.{largest_size}
 use Rattle.algebra.specs.Meaning.{Arithmetic, Meaning}
@@ -14,16 +14,20 @@ pub record Total (A : Arithmetic) : Type 0 where
   pub minus_outside : (a b : ℕ) → (A.size ≤ a) ⊎ (A.size ≤ b) → A.minus a b ≡ 0
   pub times_outside : (a b : ℕ) → (A.size ≤ a) ⊎ (A.size ≤ b) → A.times a b ≡ 0
 
--- The laws of a commutative ring, for elements: + and × are associative and commutative, 0 is neutral for +
--- and 1 for ×, × distributes over +, and a − b is the element that added to b gives a.
+-- The laws of a commutative ring, for elements: + and × are associative and commutative, 0 is
+-- neutral for + and 1 for ×, × distributes over +, and a − b is the element that added to b gives
+-- a.
 pub record RingLaws (A : Arithmetic) : Type 0 where
-  pub plus_assoc : (a b c : ℕ) → a < A.size → b < A.size → c < A.size → A.plus (A.plus a b) c ≡ A.plus a (A.plus b c)
+  pub plus_assoc : (a b c : ℕ) → a < A.size → b < A.size → c < A.size
+      → A.plus (A.plus a b) c ≡ A.plus a (A.plus b c)
   pub plus_comm : (a b : ℕ) → a < A.size → b < A.size → A.plus a b ≡ A.plus b a
   pub plus_zero : (a : ℕ) → a < A.size → A.plus a 0 ≡ a
-  pub times_assoc : (a b c : ℕ) → a < A.size → b < A.size → c < A.size → A.times (A.times a b) c ≡ A.times a (A.times b c)
+  pub times_assoc : (a b c : ℕ) → a < A.size → b < A.size → c < A.size
+      → A.times (A.times a b) c ≡ A.times a (A.times b c)
   pub times_comm : (a b : ℕ) → a < A.size → b < A.size → A.times a b ≡ A.times b a
   pub times_one : (a : ℕ) → a < A.size → A.times a 1 ≡ a
-  pub times_plus : (a b c : ℕ) → a < A.size → b < A.size → c < A.size → A.times a (A.plus b c) ≡ A.plus (A.times a b) (A.times a c)
+  pub times_plus : (a b c : ℕ) → a < A.size → b < A.size → c < A.size
+      → A.times a (A.plus b c) ≡ A.plus (A.times a b) (A.times a c)
   pub minus_plus : (a b : ℕ) → a < A.size → b < A.size → A.plus (A.minus a b) b ≡ a
 
 -- b is the only element with a × b = 1
@@ -36,10 +40,11 @@ pub record InverseOf (A : Arithmetic) (a b : ℕ) : Type 0 where
 abbrev pub HasInverses : Arithmetic → Type 0
 HasInverses A = (a : ℕ) → (a ≢ 0) → a < A.size → (b : ℕ) × (b < A.size) × (A.times a b ≡ 1)
 
--- Every element other than 0 has exactly one inverse, and the field answers it. It answers nothing for 0 and for
--- a number that is no element.
+-- Every element other than 0 has exactly one inverse, and the field answers it. It answers nothing
+-- for 0 and for a number that is no element.
 pub record InverseLaws (m : Meaning) : Type 0 where
-  pub inverts : (a : ℕ) → (a ≢ 0) → a < m.arithmetic.size → (b : ℕ) × (m.inverse a ≡ Some b) × InverseOf m.arithmetic a b
+  pub inverts : (a : ℕ) → (a ≢ 0) → a < m.arithmetic.size
+      → (b : ℕ) × (m.inverse a ≡ Some b) × InverseOf m.arithmetic a b
   pub nothing_for_zero : m.inverse 0 ≡ None
   pub nothing_outside : (a : ℕ) → m.arithmetic.size ≤ a → m.inverse a ≡ None
 

@@ -1,4 +1,4 @@
--- The largest sizes, each named once. Assumes nothing.
+-- The largest sizes, each named once.
 use Rattle.std.specs.Prelude.{ℕ, ◌+◌, ◌^◌}
 
 -- the most elements that a field may have are a power of 2, by this exponent

@@ -1,4 +1,4 @@
--- What a field means: its size and what its calls answer, for all numbers. Assumes nothing.
+-- What a field means: its size and what its calls answer, for all numbers.
 use Rattle.std.specs.Prelude.{ℕ, zero, suc, Bool, cond, ◌&&◌, Some, None, Option, nat_eq, nat_lt}
 
 -- The part that a ring without inverses has too. The elements are the numbers below the size.

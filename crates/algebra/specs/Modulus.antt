@@ -1,8 +1,8 @@
--- What makes remainders after division by a modulus a field, for whole numbers and for polynomials. Assumes nothing.
+-- What makes remainders after division by a modulus a field, for whole numbers and for polynomials.
 use Rattle.std.specs.Prelude.{◌≡◌, ◌≢◌, ℕ, ◌<◌, ◌≤◌}
 
--- What a modulus gives. `add` and `mul` work on all numbers, `reduce` takes the remainder, and the three operations are
--- the reduced ones where both arguments are remainders.
+-- What a modulus gives. `add` and `mul` work on all numbers, `reduce` takes the remainder, and the
+-- three operations are the reduced ones where both arguments are remainders.
 pub record Modulus (size : ℕ) (plus minus times : ℕ → ℕ → ℕ) : Type 0 where
   pub add : ℕ → ℕ → ℕ
   pub mul : ℕ → ℕ → ℕ

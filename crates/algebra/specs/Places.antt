@@ -1,4 +1,4 @@
--- Lists of places, and counts over the places below a bound. Assumes nothing.
+-- Lists of places, and counts over the places below a bound.
 use Rattle.std.specs.Prelude.{◌≡◌, ℕ, zero, suc, Bool, true, false, cond, ◌⊎◌, List, [], ◌∷◌, ◌==◌, nat_eq}
 
 -- x stands in the list

@@ -1,4 +1,4 @@
--- Polynomials over a ring's elements, as lists of coefficients with the constant term first. Assumes nothing.
+-- Polynomials over a ring's elements, as lists of coefficients with the constant term first.
 use Rattle.std.specs.Prelude.{ℕ, suc, ◌<◌, List, [], ◌∷◌, Some, None, Option, slice_index}
 use Rattle.algebra.specs.Meaning.{Arithmetic, Meaning}
 
@@ -29,7 +29,8 @@ abbrev pub annihilator : Arithmetic → List ℕ → List ℕ
 annihilator A [] = 1 ∷ []
 annihilator A (a ∷ points) = linear_product A a (annihilator A points)
 
--- the quotient of p by X − a (synthetic division), one coefficient shorter than p; the remainder is p(a)
+-- the quotient of p by X − a (synthetic division), one coefficient shorter than p; the remainder is
+-- p(a)
 abbrev pub quotient_linear : Arithmetic → ℕ → List ℕ → List ℕ
 quotient_linear A a [] = []
 quotient_linear A a (c ∷ []) = []

@@ -1,4 +1,4 @@
--- Powers and finite sums of a ring's elements. Assumes nothing.
+-- Powers and finite sums of a ring's elements.
 use Rattle.std.specs.Prelude.{ℕ, zero, suc}
 use Rattle.algebra.specs.Meaning.{Arithmetic}
 

@@ -1,11 +1,12 @@
--- Which polynomials fit a sequence, their partners, and minimal pairs. Polynomials are lists of coefficients, the
--- constant term first; past the end of a list stands 0. Assumes nothing.
+-- Which polynomials fit a sequence, their partners, and minimal pairs. Polynomials are lists of
+-- coefficients, the constant term first; past the end of a list stands 0.
 use Rattle.std.specs.Prelude.{◌≡◌, ◌≢◌, ℕ, suc, ◌+◌, ◌-◌, ◌<◌, ◌≤◌, List, length, slice_index}
 use Rattle.algebra.specs.Meaning.{Arithmetic}
 use Rattle.algebra.specs.Power.{sum}
 use Rattle.algebra.specs.Polynomial.{AllElements}
 
--- f has degree m: its coefficients are elements, that of X^m is not 0, and those above are 0. So f is not 0.
+-- f has degree m: its coefficients are elements, that of X^m is not 0, and those above are 0. So f
+-- is not 0.
 pub record Degree (A : Arithmetic) (f : List ℕ) (m : ℕ) : Type 0 where
   pub elements : AllElements A f
   pub leads : slice_index f m ≢ 0
@@ -15,11 +16,13 @@ pub record Degree (A : Arithmetic) (f : List ℕ) (m : ℕ) : Type 0 where
 abbrev pub applied : Arithmetic → List ℕ → ℕ → List ℕ → ℕ → ℕ
 applied A f m s k = sum A (suc m) (λ j. A.times (slice_index f j) (slice_index s (k + j)))
 
--- f, of degree m, fits the sequence: it gives 0 at every place where its m + 1 coefficients find numbers
+-- f, of degree m, fits the sequence: it gives 0 at every place where its m + 1 coefficients find
+-- numbers
 abbrev pub Fits : Arithmetic → List ℕ → List ℕ → ℕ → Type 0
 Fits A s f m = (k : ℕ) → k + m < length s → applied A f m s k ≡ 0
 
--- coefficient i of the partner of f, of degree m: the sum over all j > i of f_j × s_(j−1−i); here j is i + 1 + t
+-- coefficient i of the partner of f, of degree m: the sum over all j > i of f_j × s_(j−1−i); here j
+-- is i + 1 + t
 abbrev pub partner : Arithmetic → List ℕ → List ℕ → ℕ → ℕ → ℕ
 partner A s f m i = sum A (m - i) (λ t. A.times (slice_index f (i + 1 + t)) (slice_index s t))
 

@@ -12,10 +12,13 @@ ghost use Rattle.algebra.specs.WorkedExample.{WorkedExample};
 pub fn ring_theorems()
     ensures times_power { (ring : Arithmetic) → Total ring → RingLaws ring → TimesPowerIs ring }
     ensures reordering { (ring : Arithmetic) → Total ring → RingLaws ring → Reordering ring }
-    ensures word_reordering { (ring : Arithmetic) → Total ring → RingLaws ring → WordReordering ring }
+    ensures word_reordering { (ring : Arithmetic) → Total ring → RingLaws ring
+        → WordReordering ring }
     ensures division { (ring : Arithmetic) → Total ring → RingLaws ring → Division ring }
-    ensures annihilator_monic { (ring : Arithmetic) → Total ring → RingLaws ring → AnnihilatorMonic ring }
-    ensures annihilator_roots { (ring : Arithmetic) → Total ring → RingLaws ring → AnnihilatorRoots ring }
+    ensures annihilator_monic { (ring : Arithmetic) → Total ring → RingLaws ring
+        → AnnihilatorMonic ring }
+    ensures annihilator_roots { (ring : Arithmetic) → Total ring → RingLaws ring
+        → AnnihilatorRoots ring }
     ensures cofactor { (ring : Arithmetic) → Total ring → RingLaws ring → CofactorIs ring }
 {}
 

@@ -2,14 +2,13 @@
 ghost use Rattle.std.specs.Prelude.{◌≡◌, true};
 ghost use Rattle.fields.specs.Binary.{binary_meaning};
 ghost use Rattle.codes.specs.Cards.{card_code};
-ghost use Rattle.tags.specs.Tags.{tag_code, tag_cells};
+ghost use Rattle.tags.specs.tag.Tags.{tag_code, tag_cells};
 ghost use Rattle.bench.specs.Readings.{SomeWord, ReadRight};
 
 use crate::damage::Damage;
-use codes::Card;
+use codes::{Card, ENGRAVED};
+use decoding::{EncodeRefusal, encode};
 use fields::BinaryField;
-use filling::{EncodeRefusal, encode};
-use house::ENGRAVED;
 use tags::Tag;
 
 pub const CELLS: usize = ENGRAVED.cells;
@@ -29,7 +28,8 @@ pub fn some_word(card: &Card<BinaryField>) -> Result<[u32; CELLS], EncodeRefusal
     Ok(word)
 }
 
-// Notes the word with its first cells left blank and those after them wrong. The tag is still one of its card.
+// Notes the word with its first cells left blank and those after them wrong. The tag is still one
+// of its card.
 pub fn note_damaged(tag: &mut Tag<'_, BinaryField>, word: &[u32; CELLS], damage: Damage)
     ensures { tag.new.card.now ≡ tag.old.card.now }
 {
@@ -44,7 +44,8 @@ pub fn note_damaged(tag: &mut Tag<'_, BinaryField>, word: &[u32; CELLS], damage:
 
 // Whether the tag reads as the word, with the damage counted.
 pub fn reads(tag: &Tag<'_, BinaryField>, word: &[u32; CELLS], damage: Damage) -> bool
-    ensures { result ≡ true → ReadRight (binary_meaning tag.now.card.now.field).arithmetic (tag_code tag.now) (tag_cells tag.now) word.now damage }
+    ensures { result ≡ true → ReadRight (binary_meaning tag.now.card.now.field).arithmetic
+        (tag_code tag.now) (tag_cells tag.now) word.now damage }
 {
     let mut read = [0; CELLS];
     let Ok(counts) = tag.read(&mut read) else {

@@ -1,13 +1,14 @@
-// Times readings of the engraved card. Without an argument it tells what it measures; with the argument `run` it measures.
+// Times readings of the engraved card. Without an argument it tells what it measures; with the
+// argument `run` it measures.
 #![tactic(auto)]
 
 mod damage;
 mod engraved;
 
 use anyhow::anyhow;
+use codes::engraved_card;
 use damage::DAMAGES;
 use engraved::{note_damaged, reads, some_word};
-use house::engraved_card;
 use std::env;
 use std::time::Instant;
 use tags::Tag;

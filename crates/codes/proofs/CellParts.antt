@@ -1,4 +1,4 @@
--- What one cell adds to the sums: noting a letter at a blank cell, and erasing a noted one. Assumes nothing.
+-- What one cell adds to the sums: noting a letter at a blank cell, and erasing a noted one.
 use Rattle.std.proofs.Common.{◌≡◌, ℕ, zero, suc, ◌<◌, ◌≢◌, List, length, get_or, set, Some, None, Option, sym, refl, ap, ◌∙◌, ap₂, inl, inr, arith, length-set, get_or-set_other, get_or-set_same}
 use Rattle.std.proofs.lemmas.List.{ext_get_or}
 use Rattle.std.proofs.lemmas.Bool.{cases_eq}

@@ -1,5 +1,5 @@
 -- Cells without a blank are a codeword exactly when their letters are below the alphabet size and their sums are 0.
--- Assumes nothing.
+--
 use Rattle.std.proofs.Common.{◌≡◌, ℕ, ◌<◌, List, length, get_or, sym, ◌∙◌, subst, zero-add, arith}
 use Rattle.std.proofs.lemmas.List.FromFn.{get_or-map-range_with_len, length-map-range_with_len}
 use Rattle.algebra.specs.Meaning.{Arithmetic}
@@ -7,7 +7,7 @@ use Rattle.codes.specs.Code.{Code}
 use Rattle.codes.specs.Sums.{syndrome, syndromes}
 use Rattle.codes.specs.Cells.{noted}
 use Rattle.codes.specs.Codeword.{Codeword}
-use Rattle.codes.specs.Verdicts.{Lettered, AllZero, BelowIfNoted}
+use Rattle.codes.specs.Standings.{Lettered, AllZero, BelowIfNoted}
 use Rattle.codes.specs.declared.cell.Cell.{Cell}
 use Rattle.codes.proofs.Words.{length_noted, get_or_noted, syndrome_noted}
 

@@ -1,4 +1,4 @@
 pub mod Words
 pub mod Codewords
 pub mod CellParts
-pub mod CountedLists
+pub mod house_lemmas

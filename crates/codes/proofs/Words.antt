@@ -1,4 +1,4 @@
--- A word and the cells that it is noted in: letters, blanks and sums. Assumes nothing.
+-- A word and the cells that it is noted in: letters, blanks and sums.
 use Rattle.std.proofs.Common.{◌≡◌, ℕ, zero, suc, ◌+◌, ◌<◌, ◌≤◌, List, [], ◌∷◌, map, length, get_or, Some, None, Option, unwrap_or, sym, refl, ap, ◌∙◌, ap₂, arith}
 use Rattle.std.proofs.lemmas.List.{length-map}
 use Rattle.algebra.specs.Meaning.{Arithmetic}

@@ -1,4 +1,4 @@
--- The values of a card over either kind of field. Assumes nothing.
+-- The values of a card over either kind of field.
 use Rattle.codes.specs.Code.{Code}
 use Rattle.codes.specs.Cards.{card_code}
 use Rattle.codes.specs.declared.any_card.AnyCard.{AnyCard}

@@ -1,6 +1,6 @@
--- Checked code cards. Assumes nothing.
+-- Checked code cards.
 use Rattle.std.specs.Prelude.{◌≡◌, ℕ, Ok, Err, Result}
-use Rattle.algebra.specs.Meaning.{Meaning}
+use Rattle.algebra.specs.Meaning.{Arithmetic, Meaning}
 use Rattle.algebra.specs.Alphabet.{Alphabet}
 use Rattle.fields.specs.declared.field.Field.{Ghosts}
 use Rattle.codes.specs.Code.{Code, code_with}
@@ -13,6 +13,10 @@ use Rattle.codes.specs.declared.card_cause.CardCause.TheVariants.{BadShape, NoAl
 abbrev pub card_code : {F : Type 0} {g : Ghosts F} → Card F g → Code
 card_code card = code_with card.letters card.rows card.locators.items card.multipliers.items
 
+-- the arithmetic of a card's field
+abbrev pub card_arithmetic : {F : Type 0} {g : Ghosts F} → Card F g → Arithmetic
+card_arithmetic {F} {g} card = (g.meaning card.field).arithmetic
+
 abbrev pub card_number : CardCause → ℕ
 card_number BadShape = 13
 card_number NoAlphabet = 14
@@ -23,10 +27,15 @@ card_number BadMultiplier = 16
 abbrev pub CardRefused : Meaning → Code → CardCause → Type 0
 CardRefused m code BadShape = Shape code → ⊥
 CardRefused m code NoAlphabet = Shape code × (Alphabet m.arithmetic code.letters → ⊥)
-CardRefused m code BadLocator = Shape code × Alphabet m.arithmetic code.letters × (LocatorsFit m code.locators → ⊥)
-CardRefused m code BadMultiplier = Shape code × Alphabet m.arithmetic code.letters × LocatorsFit m code.locators × (MultipliersFit m code.multipliers → ⊥)
+CardRefused m code BadLocator =
+    Shape code × Alphabet m.arithmetic code.letters × (LocatorsFit m code.locators → ⊥)
+CardRefused m code BadMultiplier =
+    Shape code × Alphabet m.arithmetic code.letters × LocatorsFit m code.locators
+    × (MultipliersFit m code.multipliers → ⊥)
 
--- A granted card holds exactly what was given and is checked; else the first broken rule is answered.
-abbrev pub CardMade : {F : Type 0} {g : Ghosts F} → Meaning → F → Code → Result (Card F g) CardCause → Type 0
+-- A granted card holds exactly what was given and is checked; else the first broken rule is
+-- answered.
+abbrev pub CardMade : {F : Type 0} {g : Ghosts F} → Meaning → F → Code → Result (Card F g) CardCause
+    → Type 0
 CardMade m field code (Ok card) = (card.field ≡ field) × (card_code card ≡ code) × Checked m code
 CardMade m field code (Err cause) = CardRefused m code cause

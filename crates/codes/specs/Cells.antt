@@ -1,4 +1,4 @@
--- Blank and noted cells. Assumes nothing.
+-- Blank and noted cells.
 use Rattle.std.specs.Prelude.{ℕ, ◌+◌, List, [], ◌∷◌, map, Some, None, Option}
 use Rattle.codes.specs.declared.cell.Cell.{Cell}
 

@@ -1,4 +1,4 @@
--- What a checked card keeps. Assumes nothing.
+-- What a checked card keeps.
 use Rattle.std.specs.Prelude.{◌≡◌, ℕ, ◌<◌, ◌≤◌, List, length, slice_index}
 use Rattle.algebra.specs.Meaning.{Meaning}
 use Rattle.algebra.specs.Laws.{Laws}
@@ -26,7 +26,8 @@ LocatorsFit m locators = Locators m.arithmetic (length locators) (λ j. slice_in
 
 -- the multipliers are elements other than 0
 abbrev pub MultipliersFit : Meaning → List ℕ → Type 0
-MultipliersFit m multipliers = Multipliers m.arithmetic (length multipliers) (λ j. slice_index multipliers j)
+MultipliersFit m multipliers =
+    Multipliers m.arithmetic (length multipliers) (λ j. slice_index multipliers j)
 
 -- What a checked card keeps: its field's laws and every rule of a card.
 pub record Checked (m : Meaning) (code : Code) : Type 0 where

@@ -1,4 +1,4 @@
--- The plain values of a code. Assumes nothing.
+-- The plain values of a code.
 use Rattle.std.specs.Prelude.{ℕ, List}
 use Rattle.codes.specs.declared.code.CodeRef.{CodeRef}
 
@@ -12,7 +12,15 @@ pub record Code : Type 0 where
   pub multipliers : List ℕ
 
 abbrev pub code_with : ℕ → ℕ → List ℕ → List ℕ → Code
-code_with letters rows locators multipliers = record { letters = letters; rows = rows; locators = locators; multipliers = multipliers }
+code_with letters rows locators multipliers =
+    record { letters = letters; rows = rows; locators = locators; multipliers = multipliers }
 
 abbrev pub code_of : CodeRef → Code
-code_of c = record { letters = c.letters; rows = c.rows; locators = c.locators.now; multipliers = c.multipliers.now }
+code_of c =
+    record {
+      letters = c.letters;
+      rows = c.rows;
+      locators = c.locators.now;
+      multipliers =
+          c.multipliers.now;
+    }

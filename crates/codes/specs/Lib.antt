@@ -1,3 +1,4 @@
+pub use Rattle.algebra.specs.Power
 pub mod Code
 pub mod Checked
 pub mod CheckedOnce
@@ -6,5 +7,7 @@ pub mod AnyCards
 pub mod Sums
 pub mod Cells
 pub mod Codeword
-pub mod Verdicts
+pub mod Standings
 pub mod WordText
+pub mod house
+pub mod CountedLists

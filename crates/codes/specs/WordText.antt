@@ -1,4 +1,4 @@
--- The bytes of a word and of a row of cells. Assumes nothing.
+-- The bytes of a word and of a row of cells.
 use Rattle.std.specs.Prelude.{ℕ, List, ◌++◌, Some, None, Option, codes, decimal, flat_map}
 use Rattle.codes.specs.declared.cell.Cell.{Cell}
 

@@ -1,4 +1,4 @@
--- Which numbers may be letters in a field of the binary kind: the numbers below 2, and all elements. Assumes nothing.
+-- Which numbers may be letters in a field of the binary kind: the numbers below 2, and all elements.
 use Rattle.std.proofs.Common.{◌≡◌, ℕ, zero, suc, ◌+◌, ◌-◌, ◌^◌, ◌<◌, ◌≤◌, ◌⊎◌, sym, ap, ◌∙◌, subst, inl, inr, ⊎_elim, eq-zero-or-pos, one-mul, pow-suc, arith, pow_pos}
 use mathlib.Core.Path.{subst⁻¹}
 use native.Mathlib.Nat.{two-pow-succ}

@@ -1,4 +1,4 @@
--- Euclid's algorithm modulo p: its step, and where it ends. Assumes nothing.
+-- Euclid's algorithm modulo p: its step, and where it ends.
 use Rattle.std.proofs.Common.{◌≡◌, ℕ, ◌+◌, ◌-◌, ◌*◌, ◌%◌, ◌<◌, ◌≤◌, sym, ap, ◌∙◌, ⊎_elim, add-zero, mod-lt, mod-eq_of_lt, mul_assoc, mul_comm, add-mul, arith}
 use native.Mathlib.Nat.{mod_self, zero-mod, mod-add-mod, add-mod-mod, mod-eq-zero_of_dvd, dvd_of_mod-eq-zero, dvd-mod_iff, le_of_dvd}
 use Rattle.std.proofs.lemmas.Bool.{cases_eq}

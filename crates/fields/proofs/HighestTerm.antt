@@ -1,4 +1,4 @@
--- Taking a multiple of v by a power of X off u cancels the highest term of u. Assumes nothing.
+-- Taking a multiple of v by a power of X off u cancels the highest term of u.
 use Rattle.std.proofs.Common.{◌≡◌, ℕ, zero, suc, ◌+◌, ◌-◌, ◌*◌, ◌/◌, ◌%◌, ◌^◌, ◌<◌, ◌≤◌, sym, ap, ◌∙◌, ⊎_elim, mod-eq_of_lt, mul_assoc, add-sub_of_le, eq-zero-or-pos, pow-suc, mul-one, arith, pow_pos, pow_mono, pow-add}
 use native.Mathlib.Nat.{mul-div-mul_right}
 use lib.Bits.{bit_xor, xor_comm}

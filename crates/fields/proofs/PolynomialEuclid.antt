@@ -1,4 +1,4 @@
--- Euclid's algorithm on f and a finds the inverse of a modulo an irreducible f. Assumes nothing.
+-- Euclid's algorithm on f and a finds the inverse of a modulo an irreducible f.
 use Rattle.std.proofs.Common.{◌≡◌, ℕ, suc, ◌+◌, ◌-◌, ◌*◌, ◌^◌, ◌<◌, ◌≤◌, sym, ap, ◌∙◌, subst, ap₂, ⊎_elim, eq-zero-or-pos, pow-suc, arith, pow_pos, pow_mono}
 use lib.Bits.{bit_xor, xor_lt}
 use lib.Pow.{pow-lt}

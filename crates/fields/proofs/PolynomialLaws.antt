@@ -1,4 +1,4 @@
--- The definitions on polynomials keep their laws. Assumes nothing.
+-- The definitions on polynomials keep their laws.
 use Rattle.std.proofs.Common.{sym, refl}
 use lib.Bits.{xor_assoc, xor_comm, xor_zero_r, xor_self}
 use Rattle.fields.specs.CarrylessProduct.{◌⊗◌}

@@ -1,4 +1,5 @@
--- An irreducible polynomial is a modulus, so the polynomials below its degree make a field. Assumes nothing.
+-- Lemmas: proved, nothing here is to be believed.
+-- An irreducible polynomial is a modulus, so the polynomials below its degree make a field.
 use Rattle.std.specs.Prelude.{◌≡◌, ℕ, zero, suc, ◌^◌, ◌<◌, ◌≤◌, Some, bit_xor, refl}
 use Rattle.std.proofs.Common.{sym, ap, ◌∙◌, ⊎_elim, arith, eq-zero-or-pos, pow_mono}
 use Rattle.std.specs.Int.Bits.{xor_assoc, xor_self, xor_zero_r}
@@ -26,7 +27,9 @@ pub no_modulus : (f k : ℕ) → NoModulus f → BinaryModulus f k → ⊥
 no_modulus f k none m =
     let below = m.bounded in
     let two = m.irreducible.no_constant in
-    ⊎_elim (λ large. omega arith) (⊎_elim (λ small. omega arith) (λ (a, b, la, lb, e). m.irreducible.no_product a b la lb e)) none
+    ⊎_elim (λ large. omega arith)
+    (⊎_elim (λ small. omega arith) (λ (a, b, la, lb, e). m.irreducible.no_product a b la lb e))
+    none
 
 -- an irreducible polynomial has degree 1 or more
 pub degree_positive : (f k : ℕ) → Degree f k → 2 ≤ f → 2 ≤ 2 ^ k
@@ -73,7 +76,8 @@ module _ (f k : ℕ) (d : Degree f k) (i : Irreducible f) where
     division = λ a h. ((divided_by a).2 h).0;
     rest_smaller = λ a h. ((divided_by a).2 h).1;
     no_factor = λ a l h z.
-        let e = ((divided_by a).2 (omega arith)).0 ∙ ap (bit_xor ((divided_by a).0 ⊗ a)) z ∙ xor_zero_r ((divided_by a).0 ⊗ a) in
+        let e = ((divided_by a).2 (omega arith)).0 ∙ ap (bit_xor ((divided_by a).0 ⊗ a)) z ∙
+        xor_zero_r ((divided_by a).0 ⊗ a) in
         no_factor f (divided_by a).0 a i l (omega (arith, degree_ge f k d)) e;
   }
 
@@ -84,11 +88,14 @@ module _ (f k : ℕ) (d : Degree f k) (i : Irreducible f) where
   A = modulo_polynomial f k
 
   -- an element that makes 1 with a is the inverse that the field answers
-  pub binary_inverse : (a b : ℕ) → a < 2 ^ k → b < 2 ^ k → remainder f k (a ⊗ b) ≡ 1 → inverse_in A a ≡ Some b
+  pub binary_inverse : (a b : ℕ) → a < 2 ^ k → b < 2 ^ k → remainder f k (a ⊗ b) ≡ 1
+      → inverse_in A a ≡ Some b
   binary_inverse a b ha hb e =
       (inverse_found A (modulus_total binary_modulus) (modulus_ring binary_modulus) a b ha hb
       (on_elements_inside (2 ^ k) (λ x y. remainder f k (x ⊗ y)) a b ha hb ∙ e)).0
 
 -- a modulus up to the largest makes no field larger than the largest size
 pub modulus_size : (f k : ℕ) → Degree f k → f ≤ largest_modulus → 2 ^ k ≤ largest_size
-modulus_size f k d h = let l = degree_below f k (suc size_bits) d (omega arith) in pow_mono {i = k} {j = size_bits} (omega arith)
+modulus_size f k d h =
+    let l = degree_below f k (suc size_bits) d (omega arith) in pow_mono {i = k} {j = size_bits}
+    (omega arith)

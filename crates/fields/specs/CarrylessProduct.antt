@@ -1,5 +1,5 @@
--- Polynomials over two elements as numbers: bit i of a number is the coefficient of X^i. The sum of two is their
--- exclusive or; this file has their product. Assumes nothing.
+-- Polynomials over two elements as numbers: bit i of a number is the coefficient of X^i. The sum of
+-- two is their exclusive or; this file has their product.
 use Rattle.std.specs.Prelude.{ℕ, zero, suc, ◌*◌, ◌/◌, ◌%◌, ◌^◌, bit_xor}
 
 -- bit i of a
@@ -11,7 +11,8 @@ abbrev pub xor_sum : ℕ → (ℕ → ℕ) → ℕ
 xor_sum zero f = 0
 xor_sum (suc n) f = bit_xor (xor_sum n f) (f n)
 
--- The carry-less product: the exclusive or of b × 2^i over the bits i of a. All of them stand below place a, since a < 2^a.
+-- The carry-less product: the exclusive or of b × 2^i over the bits i of a. All of them stand below
+-- place a, since a < 2^a.
 unfoldable pub ◌⊗◌ : ℕ → ℕ → ℕ
 a ⊗ b = xor_sum a (λ i. bit a i * (b * 2 ^ i))
 

@@ -1,4 +1,4 @@
--- The number of each refusal of a maker of fields. Assumes nothing.
+-- The number of each refusal of a maker of fields.
 use Rattle.std.specs.Prelude.{ℕ}
 use Rattle.fields.specs.declared.cause.FieldCause.{FieldCause}
 use Rattle.fields.specs.declared.cause.FieldCause.TheVariants.{NoPrime, BadModulus}

@@ -1,4 +1,5 @@
--- Remainders of whole numbers: products, and what may be taken away on both sides. Assumes nothing.
+-- Lemmas: proved, nothing here is to be believed.
+-- Remainders of whole numbers: products, and what may be taken away on both sides.
 use Rattle.std.specs.Prelude.{◌≡◌, ℕ, ◌+◌, ◌-◌, ◌*◌, ◌/◌, ◌%◌, ◌<◌}
 use Rattle.std.proofs.Common.{sym, ◌∙◌, ap, add_assoc, add-zero, mul_comm, mul_assoc, add-mul, mod-lt, div-add-mod', arith}
 use Rattle.std.proofs.Math.Nat.{mod_self, mod-add-mod, add-mod-mod, mul-add-mod_self_right}
@@ -8,11 +9,14 @@ mul_mod_left a b p =
     let split : a * b ≡ (a / p * b) * p + a % p * b =
     ap (λ x. x * b) (sym (div-add-mod' a p))
     ∙ add-mul (a / p * p) (a % p) b
-    ∙ ap (λ x. x + a % p * b) (mul_assoc (a / p) p b ∙ ap (λ x. a / p * x) (mul_comm p b) ∙ sym (mul_assoc (a / p) b p)) in
+    ∙ ap (λ x. x + a % p * b)
+    (mul_assoc (a / p) p b ∙ ap (λ x. a / p * x) (mul_comm p b) ∙ sym (mul_assoc (a / p) b p))
+    in
     sym (ap (λ x. x % p) split ∙ mul-add-mod_self_right (a / p * b) p (a % p * b))
 
 pub mul_mod_right : (a b p : ℕ) → (a * (b % p)) % p ≡ (a * b) % p
-mul_mod_right a b p = ap (λ x. x % p) (mul_comm a (b % p)) ∙ mul_mod_left b a p ∙ ap (λ x. x % p) (mul_comm b a)
+mul_mod_right a b p =
+    ap (λ x. x % p) (mul_comm a (b % p)) ∙ mul_mod_left b a p ∙ ap (λ x. x % p) (mul_comm b a)
 
 -- c and p − c % p make a multiple of p
 opposite : (c p : ℕ) → 0 < p → (c + (p - c % p)) % p ≡ 0

@@ -1,4 +1,4 @@
--- Elements and letters: the numbers below a size. Assumes nothing.
+-- Elements and letters: the numbers below a size.
 use Rattle.std.specs.Prelude.{ℕ, ◌<◌, List, length, slice_index}
 
 abbrev pub AllBelow : ℕ → List ℕ → Type 0

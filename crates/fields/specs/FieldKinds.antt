@@ -1,4 +1,4 @@
--- The kinds of fields by their numbers. Assumes nothing.
+-- The kinds of fields by their numbers.
 use Rattle.std.specs.Prelude.{◌≡◌, ◌≢◌, ℕ, Result, Ok, Err}
 use Rattle.fields.specs.Kinds.{prime_kind, binary_kind}
 use Rattle.fields.specs.declared.kind.FieldKind.{FieldKind}

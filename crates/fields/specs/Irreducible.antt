@@ -1,4 +1,4 @@
--- Irreducible polynomials over two elements. Assumes nothing.
+-- Irreducible polynomials over two elements.
 use Rattle.std.specs.Prelude.{◌≡◌, ℕ, ◌≤◌}
 use Rattle.fields.specs.CarrylessProduct.{◌⊗◌}
 

@@ -1,4 +1,4 @@
--- The numbers of the two kinds of field. Assumes nothing.
+-- The numbers of the two kinds of field.
 use Rattle.std.specs.Prelude.{ℕ}
 
 abbrev pub prime_kind : ℕ

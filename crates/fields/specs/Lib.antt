@@ -1,3 +1,6 @@
+pub use Rattle.algebra.specs.Alphabet
+pub use Rattle.algebra.specs.Laws
+pub use Rattle.algebra.specs.Meaning
 pub mod Modulo
 pub mod Causes
 pub mod Prime
@@ -19,3 +22,4 @@ pub mod PolynomialFactors
 pub mod PrimeModulus
 pub mod Congruence
 pub mod ListedPrimes
+pub mod InverseLaws

@@ -1,4 +1,4 @@
--- The remainder of a polynomial after division by another. Assumes nothing.
+-- The remainder of a polynomial after division by another.
 use Rattle.std.specs.Prelude.{◌≡◌, ℕ, zero, suc, ◌+◌, ◌*◌, ◌/◌, ◌%◌, ◌^◌, ◌<◌, cond, bit_xor, nat_lt}
 use Rattle.fields.specs.CarrylessProduct.{◌⊗◌}
 
@@ -6,8 +6,8 @@ use Rattle.fields.specs.CarrylessProduct.{◌⊗◌}
 abbrev pub Degree : ℕ → ℕ → Type 0
 Degree f k = f / 2 ^ k ≡ 1
 
--- One step of long division by f of degree k: the next coefficient c is brought down behind the remainder r,
--- and f is taken off if the degree is then k.
+-- One step of long division by f of degree k: the next coefficient c is brought down behind the
+-- remainder r, and f is taken off if the degree is then k.
 abbrev pub bring_down : ℕ → ℕ → ℕ → ℕ → ℕ
 bring_down f k r c = cond (nat_lt (r * 2 + c) (2 ^ k)) (r * 2 + c) (bit_xor (r * 2 + c) f)
 

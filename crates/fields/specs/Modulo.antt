@@ -1,4 +1,4 @@
--- Whole numbers modulo a listed prime. Assumes nothing.
+-- Whole numbers modulo a listed prime.
 use Rattle.std.specs.Prelude.{◌≡◌, ℕ, ◌+◌, ◌-◌, ◌*◌, ◌%◌, ◌<◌, ◌≤◌, Bool, true, false, ◌||◌, List, [], ◌∷◌, ◌==◌, ◌≢◌}
 use Rattle.algebra.specs.Meaning.{Arithmetic, arithmetic_of}
 
@@ -19,6 +19,7 @@ pub record Prime (p : ℕ) : Type 0 where
   pub two : 2 ≤ p
   pub no_divisor : (d : ℕ) → 2 ≤ d → d < p → p % d ≢ 0
 
--- sums, differences and products of the numbers below p, each reduced to its remainder after division by p
+-- sums, differences and products of the numbers below p, each reduced to its remainder after
+-- division by p
 abbrev pub modulo : ℕ → Arithmetic
 modulo p = arithmetic_of p (λ a b. (a + b) % p) (λ a b. (a + (p - b)) % p) (λ a b. (a * b) % p)

@@ -1,4 +1,5 @@
--- Long division gives the remainder, and there is only one. Assumes nothing.
+-- Lemmas: proved, nothing here is to be believed.
+-- Long division gives the remainder, and there is only one.
 use Rattle.std.specs.Prelude.{◌≡◌, ℕ, zero, suc, ◌+◌, ◌*◌, ◌/◌, ◌%◌, ◌^◌, ◌<◌, ◌≤◌, bit_xor, nat_lt}
 use Rattle.std.proofs.Common.{sym, ap, ap₂, subst, ◌∙◌, ⊎_elim, arith, le-add_left, eq-zero-or-pos, mod-lt, le_refl, pow_pos, pow_mono}
 use Rattle.std.proofs.Math.Nat.{pow-succ'}
@@ -22,11 +23,21 @@ both_changed : (p y f : ℕ) → bit_xor p y ≡ bit_xor (bit_xor p f) (bit_xor 
 both_changed p y f = simp xor_laws
 
 -- one step of long division
-bring_down_divides : (f k a r : ℕ) → Degree f k → Remainder f k (a / 2) r → Remainder f k a (bring_down f k r (a % 2))
+bring_down_divides : (f k a r : ℕ) → Degree f k → Remainder f k (a / 2) r
+    → Remainder f k a (bring_down f k r (a % 2))
 bring_down_divides f k a r d h =
     cond_both (nat_lt y (2 ^ k)) y (bit_xor y f) (Remainder f k a)
     (λ t. record { quotient = q * 2; divides = with_y; small = ltb-true y (2 ^ k) t })
-    (λ t. record { quotient = bit_xor (q * 2) 1; divides = with_y ∙ both_changed (q * 2 ⊗ f) y f ∙ ap (λ (x : ℕ). bit_xor x (bit_xor y f)) (sym (xor_product (q * 2) 1 f ∙ ap (bit_xor (q * 2 ⊗ f)) (one_product f))); small = xor_lower f y k d (degree_from y k (ltb-false y (2 ^ k) t) (omega (arith, h.small, pow-succ' 2 k))) })
+    (λ t.
+    record {
+      quotient = bit_xor (q * 2) 1;
+      divides = with_y ∙ both_changed (q * 2 ⊗ f) y f ∙
+          ap (λ (x : ℕ). bit_xor x (bit_xor y f))
+          (sym (xor_product (q * 2) 1 f ∙ ap (bit_xor (q * 2 ⊗ f)) (one_product f)));
+      small =
+          xor_lower f y k d (degree_from y k (ltb-false y (2 ^ k) t)
+          (omega (arith, h.small, pow-succ' 2 k)));
+    })
   where
     y : ℕ
     y = r * 2 + a % 2
@@ -37,7 +48,8 @@ bring_down_divides f k a r d h =
     with_y : a ≡ bit_xor (q * 2 ⊗ f) y
     with_y =
         sym (low_and_rest a)
-        ∙ ap (bit_xor (a % 2)) (ap (λ (x : ℕ). x * 2) h.divides ∙ sym (xor_double (q ⊗ f) r) ∙ ap (λ (x : ℕ). bit_xor x (r * 2)) (sym (double_product q f)))
+        ∙ ap (bit_xor (a % 2)) (ap (λ (x : ℕ). x * 2) h.divides ∙ sym (xor_double (q ⊗ f) r) ∙ ap
+        (λ (x : ℕ). bit_xor x (r * 2)) (sym (double_product q f)))
         ∙ rotate (a % 2) (q * 2 ⊗ f) (r * 2)
         ∙ ap (bit_xor (q * 2 ⊗ f)) (xor_shifted r 1 (a % 2) (mod-lt a (omega arith)))
 
@@ -52,8 +64,14 @@ across p q s r e = left p q s ∙ ap (λ (x : ℕ). bit_xor x (bit_xor s q)) e �
     right q r s = simp xor_laws
 
 bits_divide : (n f k a : ℕ) → Degree f k → a ≤ n → Remainder f k a (divide_bits f k n a)
-bits_divide zero f k a d h = record { quotient = 0; divides = le-zero h ∙ ap (λ (x : ℕ). bit_xor x 0) (sym (zero_product f)); small = pow_pos k }
-bits_divide (suc n) f k a d h = bring_down_divides f k a (divide_bits f k n (a / 2)) d (bits_divide n f k (a / 2) d (half_le h))
+bits_divide zero f k a d h =
+    record {
+      quotient = 0;
+      divides = le-zero h ∙ ap (λ (x : ℕ). bit_xor x 0) (sym (zero_product f));
+      small = pow_pos k;
+    }
+bits_divide (suc n) f k a d h =
+    bring_down_divides f k a (divide_bits f k n (a / 2)) d (bits_divide n f k (a / 2) d (half_le h))
 
 pub remainder_divides : (f k a : ℕ) → Degree f k → Remainder f k a (remainder f k a)
 unfolding remainder
@@ -83,7 +101,11 @@ remainder_unique f k a r d h =
     g = remainder_divides f k a d
 
     difference : bit_xor g.quotient h.quotient ⊗ f ≡ bit_xor s r
-    difference = xor_product g.quotient h.quotient f ∙ across (g.quotient ⊗ f) (h.quotient ⊗ f) s r (sym g.divides ∙ h.divides)
+    difference =
+        xor_product g.quotient h.quotient f ∙ across (g.quotient ⊗ f) (h.quotient ⊗ f) s r
+        (sym g.divides ∙ h.divides)
 
     none : bit_xor g.quotient h.quotient ≡ 0
-    none = small_multiple f k _ d (subst (λ (x : ℕ). x < 2 ^ k) (sym difference) (xor_lt k s r g.small h.small))
+    none =
+        small_multiple f k _ d (subst (λ (x : ℕ). x < 2 ^ k) (sym difference)
+        (xor_lt k s r g.small h.small))

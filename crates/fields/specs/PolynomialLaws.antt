@@ -1,10 +1,11 @@
--- What the definitions on polynomials over two elements are held to: the laws of a ring, what a remainder is, and
--- examples. Assumes nothing.
+-- What the definitions on polynomials over two elements are held to: the laws of a ring, what a
+-- remainder is, and examples.
 use Rattle.std.specs.Prelude.{◌≡◌, ℕ, ◌+◌, bit_xor}
 use Rattle.fields.specs.CarrylessProduct.{◌⊗◌}
 use Rattle.fields.specs.LongDivision.{Degree, Remainder, remainder}
 
--- with exclusive or as the sum, the carry-less product makes a commutative ring in which degrees add up
+-- with exclusive or as the sum, the carry-less product makes a commutative ring in which degrees
+-- add up
 pub record CarrylessRing : Type 0 where
   pub sum_assoc : (a b c : ℕ) → bit_xor (bit_xor a b) c ≡ bit_xor a (bit_xor b c)
   pub sum_comm : (a b : ℕ) → bit_xor a b ≡ bit_xor b a
@@ -21,7 +22,8 @@ pub record DivisionLaw : Type 0 where
   pub divides : (f k a : ℕ) → Degree f k → Remainder f k a (remainder f k a)
   pub only : (f k a r : ℕ) → Degree f k → Remainder f k a r → r ≡ remainder f k a
 
--- (X + 1)² = X² + 1; that is X modulo X² + X + 1; and the example of the Advanced Encryption Standard,
--- 0x57 × 0x83 = 0xc1 modulo 0x11b
+-- (X + 1)² = X² + 1; that is X modulo X² + X + 1; and the example of the Advanced Encryption
+-- Standard, 0x57 × 0x83 = 0xc1 modulo 0x11b
 abbrev pub PolynomialExamples : Type 0
-PolynomialExamples = (3 ⊗ 3 ≡ 5) × (remainder 7 2 (3 ⊗ 3) ≡ 2) × (remainder 0x11b 8 (0x57 ⊗ 0x83) ≡ 0xc1)
+PolynomialExamples =
+    (3 ⊗ 3 ≡ 5) × (remainder 7 2 (3 ⊗ 3) ≡ 2) × (remainder 0x11b 8 (0x57 ⊗ 0x83) ≡ 0xc1)

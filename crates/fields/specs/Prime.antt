@@ -1,4 +1,4 @@
--- What the prime kind means, and what its maker answers. Assumes nothing.
+-- What the prime kind means, and what its maker answers.
 use Rattle.std.specs.Prelude.{◌≡◌, ℕ, Ok, Err, Result}
 use Rattle.algebra.specs.Meaning.{Meaning, with_inverses}
 use Rattle.fields.specs.Modulo.{Listed, Prime, modulo}
@@ -12,8 +12,10 @@ prime_meaning f = with_inverses (modulo f.prime)
 abbrev pub prime_accepted : PrimeField → Type 0
 prime_accepted f = Listed f.prime
 
--- Granted exactly for a listed number, which is then prime: the field works modulo it and is accepted. Any other number
--- is refused with 11.
+-- Granted exactly for a listed number, which is then prime: the field works modulo it and is
+-- accepted. Any other number is refused with 11.
 abbrev pub PrimeFieldMade : ℕ → Result PrimeField FieldCause → Type 0
-PrimeFieldMade p (Ok f) = Listed p × Prime p × (prime_meaning f ≡ with_inverses (modulo p)) × prime_accepted f × (f.prime ≡ p)
+PrimeFieldMade p (Ok f) =
+    Listed p × Prime p × (prime_meaning f ≡ with_inverses (modulo p)) × prime_accepted f
+    × (f.prime ≡ p)
 PrimeFieldMade p (Err cause) = (Listed p → ⊥) × (field_number cause ≡ 11)

@@ -1,4 +1,5 @@
--- Whole numbers modulo a prime are a field. Assumes nothing.
+-- Lemmas: proved, nothing here is to be believed.
+-- Whole numbers modulo a prime are a field.
 use Rattle.std.specs.Prelude.{◌≡◌, ℕ, ◌+◌, ◌-◌, ◌*◌, ◌/◌, ◌%◌, ◌^◌, ◌<◌, ◌≤◌, Some, refl}
 use Rattle.std.proofs.Common.{sym, ◌∙◌, ap, ⊎_elim, add_assoc, add_comm, add-zero, mul_assoc, mul_comm, mul-one, mul-zero, mul-add, mod-lt, mod-eq_of_lt, div-add-mod', arith}
 use Rattle.std.proofs.Math.Nat.{mod_self, mod-add-mod, add-mod_right}
@@ -15,7 +16,8 @@ use Rattle.fields.specs.Modulo.{Prime, Listed, modulo}
 use Rattle.fields.specs.Congruence.{mul_mod_left}
 use Rattle.fields.specs.ListedPrimes.{listed_prime, listed_small}
 
-prime_modulus : (p : ℕ) → Prime p → Modulus p (λ a b. (a + b) % p) (λ a b. (a + (p - b)) % p) (λ a b. (a * b) % p)
+prime_modulus : (p : ℕ) → Prime p
+    → Modulus p (λ a b. (a + b) % p) (λ a b. (a + (p - b)) % p) (λ a b. (a * b) % p)
 prime_modulus p prime =
     let positive : 0 < p = omega (arith, prime.two) in
     record {
@@ -40,7 +42,8 @@ prime_modulus p prime =
       plus_is = λ a b ha hb. refl;
       times_is = λ a b ha hb. refl;
       minus_below = λ a b ha hb. mod-lt _ positive;
-      minus_is = λ a b ha hb. mod-add-mod (a + (p - b)) p b ∙ ap (λ x. x % p) (back a b hb) ∙ add-mod_right a p ∙ mod-eq_of_lt ha;
+      minus_is = λ a b ha hb. mod-add-mod (a + (p - b)) p b ∙ ap (λ x. x % p) (back a b hb) ∙
+          add-mod_right a p ∙ mod-eq_of_lt ha;
       quotient = λ a. p / a;
       rest = λ a. p % a;
       division = λ a pa. sym (div-add-mod' p a);
@@ -58,22 +61,34 @@ pub prime_ring : (p : ℕ) → Prime p → RingLaws (modulo p)
 prime_ring p prime = modulus_ring (prime_modulus p prime)
 
 pub listed_laws : (p : ℕ) → Listed p → Laws (with_inverses (modulo p))
-listed_laws p listed = modulus_laws (prime_modulus p (listed_prime p listed)) (listed_small p listed)
+listed_laws p listed =
+    modulus_laws (prime_modulus p (listed_prime p listed)) (listed_small p listed)
 
 -- the inverse is whatever element makes 1
-pub prime_inverse : (p a b : ℕ) → Prime p → a < p → b < p → (a * b) % p ≡ 1 → inverse_in (modulo p) a ≡ Some b
+pub prime_inverse : (p a b : ℕ) → Prime p → a < p → b < p → (a * b) % p ≡ 1
+    → inverse_in (modulo p) a ≡ Some b
 prime_inverse p a b prime ha hb e =
-    (inverse_found (modulo p) (prime_total p prime) (prime_ring p prime) a b ha hb (on_elements_inside p (λ x y. (x * y) % p) a b ha hb ∙ e)).0
+    (inverse_found (modulo p) (prime_total p prime) (prime_ring p prime) a b ha hb
+    (on_elements_inside p (λ x y. (x * y) % p) a b ha hb ∙ e)).0
 
 -- all elements are an alphabet
 pub whole_alphabet : (p : ℕ) → Prime p → Alphabet (modulo p) p
 whole_alphabet p prime =
     let t = prime_total p prime in
-    record { two = prime.two; elements = omega arith; plus_closed = λ a b ha hb. t.plus_element a b; minus_closed = λ a b ha hb. t.minus_element a b; times_closed = λ a b ha hb. t.times_element a b }
+    record {
+      two = prime.two;
+      elements = omega arith;
+      plus_closed = λ a b ha hb.
+          t.plus_element a b;
+      minus_closed = λ a b ha hb.
+          t.minus_element a b;
+      times_closed = λ a b ha hb. t.times_element a b;
+    }
 
 -- fewer are none: 1 + (letters − 1) is no letter
 pub only_whole : (p letters : ℕ) → Prime p → Alphabet (modulo p) letters → letters ≡ p
-only_whole p letters prime alphabet = ⊎_elim fewer (λ all. let most = alphabet.elements in omega arith) (cases_lt letters p)
+only_whole p letters prime alphabet =
+    ⊎_elim fewer (λ all. let most = alphabet.elements in omega arith) (cases_lt letters p)
   where
     no_letter : (x : ℕ) → x ≡ letters → x < letters → letters ≡ p
     no_letter x e h = absurd (omega arith)
@@ -82,8 +97,10 @@ only_whole p letters prime alphabet = ⊎_elim fewer (λ all. let most = alphabe
     fewer h =
         let two = alphabet.two in
         let whole : 1 + (letters - 1) ≡ letters = omega arith in
-        let sum = on_elements_inside p (λ a b. (a + b) % p) 1 (letters - 1) (omega arith) (omega arith) ∙ ap (λ x. x % p) whole ∙ mod-eq_of_lt h in
-        no_letter ((modulo p).plus 1 (letters - 1)) sum (alphabet.plus_closed 1 (letters - 1) (omega arith) (omega arith))
+        let sum = on_elements_inside p (λ a b. (a + b) % p) 1 (letters - 1) (omega arith)
+        (omega arith) ∙ ap (λ x. x % p) whole ∙ mod-eq_of_lt h in
+        no_letter ((modulo p).plus 1 (letters - 1)) sum
+        (alphabet.plus_closed 1 (letters - 1) (omega arith) (omega arith))
 
 -- the product of two elements fits 32 bits
 pub product_fits : (a b p : ℕ) → a < p → b < p → p ≤ 2 ^ 16 → a * b < 2 ^ 32

@@ -19,9 +19,14 @@ impl<const N: usize> Model for ShortList<N> {
 
     ghost view = { λ l. take l.len l.places };
 
-    ghost invariant = { λ l. (l.len ≤ N) × (length l.places ≡ N) × (l.places ≡ take l.len l.places ++ replicate (N - l.len) 0) };
+    ghost invariant = { λ l. (l.len ≤ N) × (length l.places ≡ N)
+        × (l.places ≡ take l.len l.places ++ replicate (N - l.len) 0) };
 
-    ghost inverse = { λ numbers. record { len = length numbers; places = numbers ++ replicate (N - length numbers) 0 } };
+    ghost inverse = { λ numbers. record {
+      len = length numbers;
+      places = numbers
+          ++ replicate (N - length numbers) 0;
+    } };
 }
 
 impl<const N: usize> ShortList<N> {

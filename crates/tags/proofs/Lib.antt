@@ -1,7 +1,3 @@
-pub mod Buffers
-pub mod Journals
-pub mod Lettering
-pub mod Scripts
-pub mod Sheets
-pub mod Staying
-pub mod Tags
+pub mod marks_lemmas
+pub mod runs_lemmas
+pub mod tag_lemmas

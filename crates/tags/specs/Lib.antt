@@ -1,5 +1,5 @@
-pub mod Sheet
-pub mod Tags
-pub mod Calls
-pub mod Runs
-pub mod Scripts
+pub use Rattle.codes.specs.Cards
+pub use Rattle.decoding.specs.reading.Reading
+pub mod marks
+pub mod tag
+pub mod runs

@@ -2,8 +2,8 @@
 #![tactic(auto)]
 
 use std::io::Read;
-use trayfile::LONGEST_FILE;
-use traylines::write_lines;
+use tray_file::LONGEST_FILE;
+use tray_report::write_lines;
 
 // One byte more than a file may have tells that it is too long.
 fn run(rt: &HostRuntime) -> anyhow::Result<()> {

@@ -1,4 +1,4 @@
--- What a case of a code begins with. Assumes nothing.
+-- What a case of a code begins with.
 use Rattle.std.proofs.Common.{◌≡◌, ◌≤◌, ◌<◌, ℕ, List, [], ◌∷◌, length, get_or, refl, ap, ◌∙◌, arith}
 use Rattle.codes.specs.Code.{code_with}
 

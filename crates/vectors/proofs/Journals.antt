@@ -1,4 +1,4 @@
--- The journal of a run of given calls. Assumes nothing.
+-- The journal of a run of given calls.
 use Rattle.std.proofs.Common.{◌≡◌, ℕ, ◌+◌, ◌-◌, ◌≤◌, List, [], ◌∷◌, ◌++◌, length, map, take, drop, min, Some, sym, ap, ◌∙◌, subst, arith}
 use Rattle.std.specs.List.{slice_get}
 use Rattle.std.proofs.lemmas.List.{take_all, take_more, length-take, length-drop, length-map}
@@ -6,10 +6,10 @@ use Rattle.std.proofs.lemmas.Option.{slice_get_within, get_or_from_slice_get}
 use Rattle.algebra.specs.Meaning.{Arithmetic}
 use Rattle.codes.specs.Code.{Code}
 use Rattle.codes.specs.declared.cell.Cell.{Cell}
-use Rattle.tags.specs.Calls.{call_of}
-use Rattle.tags.specs.Runs.{RunLaw}
-use Rattle.tags.specs.declared.call.Call.{Call}
-use Rattle.tags.specs.declared.event.Event.{Event}
+use Rattle.tags.specs.runs.Calls.{call_of}
+use Rattle.tags.specs.runs.Runs.{RunLaw}
+use Rattle.tags.specs.declared.runs.call.Call.{Call}
+use Rattle.tags.specs.declared.runs.event.Event.{Event}
 use Rattle.vectors.specs.ReadAnswers.{notes_and_read, LastReadText, RunText}
 
 -- a list ends with the element at its last place

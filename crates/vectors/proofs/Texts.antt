@@ -1,4 +1,4 @@
--- A list that is made piece by piece, one for each number from 0 up. Assumes nothing.
+-- A list that is made piece by piece, one for each number from 0 up.
 use Rattle.std.proofs.Common.{◌≡◌, ℕ, ◌+◌, List, [], ◌∷◌, ◌++◌, flat_map, sym, ap, ◌∙◌, arith}
 use Rattle.std.proofs.lemmas.List.{flat_map_more, map-id}
 use Rattle.std.specs.List.{range_with_len}

@@ -1,4 +1,4 @@
--- The worked examples, by computation. Assumes nothing.
+-- The worked examples, by computation.
 use Rattle.std.proofs.Common.{◌≡◌, ℕ, List, [], ◌∷◌, Ok, Err, Result, refl, ap, ◌∙◌, subst}
 use Rattle.std.specs.Result.{IsOk}
 use Rattle.fields.specs.Modulo.{modulo, stands_in, Listed}

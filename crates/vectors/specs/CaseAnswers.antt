@@ -1,4 +1,4 @@
--- The text that answers a line of standard input, by its word. Assumes nothing.
+-- The text that answers a line of standard input, by its word.
 use Rattle.std.specs.Prelude.{◌≡◌, ◌≢◌, ◌⊎◌, ◌==◌, ℕ, Bool, List, [], ◌∷◌, Ok, Err, Result, codes}
 use Rattle.std.specs.List.{before_first, after_first}
 use Rattle.algebra.specs.Meaning.{Meaning}
@@ -11,8 +11,8 @@ use Rattle.fields.specs.declared.cause.FieldCause.{FieldCause}
 use Rattle.fields.specs.declared.kind.FieldKind.{FieldKind}
 use Rattle.fields.specs.declared.prime_field.PrimeField.{PrimeField}
 use Rattle.fields.specs.declared.binary_field.BinaryField.{BinaryField}
-use Rattle.faults.specs.Layers.{field_fault_number}
-use Rattle.faults.specs.declared.field_fault.FieldFault.TheVariants.{NoSuchField}
+use Rattle.tray_file.specs.fault.Layers.{field_fault_number}
+use Rattle.tray_file.specs.declared.fault.field_fault.FieldFault.TheVariants.{NoSuchField}
 use Rattle.vectors.specs.Answers.{RefusedText, RefusalShown, taken_text, ArithmeticText, inverses_text, products_text, AdmitsText, SumsAnswered, RealiseAnswered, CardAnswered, EncodeAnswered}
 use Rattle.vectors.specs.ReadAnswers.{ReadAnswered}
 use Rattle.vectors.specs.LineAnswers.{LineAnswered}
@@ -36,26 +36,33 @@ FieldCaseAnswered m word numbers rest text =
     ⊎ ((word ≡ codes "read") × ReadAnswered m numbers rest text)
 
 -- what is answered over the field that was made, or the maker's refusal
-abbrev pub MadeAnswered : {F : Type 0} → (F → Meaning) → Result F FieldCause → List ℕ → List ℕ → List ℕ → List ℕ → Type 0
-MadeAnswered meaning (Ok field) word numbers rest text = FieldCaseAnswered (meaning field) word numbers rest text
+abbrev pub MadeAnswered : {F : Type 0} → (F → Meaning) → Result F FieldCause → List ℕ → List ℕ
+    → List ℕ → List ℕ → Type 0
+MadeAnswered meaning (Ok field) word numbers rest text =
+    FieldCaseAnswered (meaning field) word numbers rest text
 MadeAnswered meaning (Err cause) word numbers rest text = RefusedText (field_number cause) text
 
 -- the field is made by its kind; no kind has another number
 abbrev pub KindAnswered : ℕ → ℕ → List ℕ → List ℕ → List ℕ → List ℕ → Type 0
 KindAnswered kind origin word numbers rest text =
-    ((kind ≡ prime_kind) × ((made : Result PrimeField FieldCause) × PrimeFieldMade origin made × MadeAnswered prime_meaning made word numbers rest text))
-    ⊎ ((kind ≡ binary_kind) × ((made : Result BinaryField FieldCause) × BinaryFieldMade origin made × MadeAnswered binary_meaning made word numbers rest text))
-    ⊎ (((other : FieldKind) → field_kind_number other ≢ kind) × RefusedText (field_fault_number NoSuchField) text)
+    ((kind ≡ prime_kind) × ((made : Result PrimeField FieldCause) × PrimeFieldMade origin made
+    × MadeAnswered prime_meaning made word numbers rest text))
+    ⊎ ((kind ≡ binary_kind) × ((made : Result BinaryField FieldCause) × BinaryFieldMade origin made
+    × MadeAnswered binary_meaning made word numbers rest text))
+    ⊎ (((other : FieldKind) → field_kind_number other ≢ kind)
+    × RefusedText (field_fault_number NoSuchField) text)
 
 -- of a text of a field's kind, what it is made from, and further numbers; the rest
 abbrev pub FieldAnswered : List ℕ → List ℕ → List ℕ → Type 0
 FieldAnswered word argument text =
-    (kind : ℕ) × (origin : ℕ) × (numbers : List ℕ) × (numbers_in (before_first semicolon argument) ≡ kind ∷ origin ∷ numbers)
+    (kind : ℕ) × (origin : ℕ) × (numbers : List ℕ)
+    × (numbers_in (before_first semicolon argument) ≡ kind ∷ origin ∷ numbers)
     × KindAnswered kind origin word numbers (after_first semicolon argument) text
 
 -- of a refusal's number
 abbrev pub RefusalAnswered : List ℕ → List ℕ → Type 0
-RefusalAnswered argument text = (number : ℕ) × (numbers_in argument ≡ number ∷ []) × RefusalShown number text
+RefusalAnswered argument text =
+    (number : ℕ) × (numbers_in argument ≡ number ∷ []) × RefusalShown number text
 
 abbrev pub WordAnswered : List ℕ → List ℕ → List ℕ → Type 0
 WordAnswered word argument text =

@@ -1,7 +1,8 @@
--- The coefficients that are shown of a polynomial. Assumes nothing.
+-- The coefficients that are shown of a polynomial.
 use Rattle.std.specs.Prelude.{◌≡◌, ◌≢◌, ℕ, ◌+◌, ◌<◌, ◌≤◌, List, length, take, slice_index}
 
--- The front of the coefficients up to the last that is not 0, and only zeros after it; the constant term is shown in any case.
+-- The front of the coefficients up to the last that is not 0, and only zeros after it; the constant
+-- term is shown in any case.
 pub record UpToDegree (coefficients shown : List ℕ) : Type 0 where
   pub front : shown ≡ take (length shown) coefficients
   pub rest : (i : ℕ) → length shown ≤ i → i < length coefficients → slice_index coefficients i ≡ 0

@@ -1,4 +1,4 @@
--- The products of an element, as one number. Assumes nothing.
+-- The products of an element, as one number.
 use Rattle.std.specs.Prelude.{ℕ, zero, suc, ◌+◌, ◌*◌, ◌%◌}
 use Rattle.algebra.specs.Meaning.{Arithmetic}
 

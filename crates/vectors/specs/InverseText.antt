@@ -1,4 +1,4 @@
--- How an inverse is shown. Assumes nothing.
+-- How an inverse is shown.
 use Rattle.std.specs.Prelude.{ℕ, List, Option, Some, None, codes}
 use Rattle.codes.specs.WordText.{letter_text}
 

@@ -1,4 +1,4 @@
--- What the text of a case says. Assumes nothing.
+-- What the text of a case says.
 use Rattle.std.specs.Prelude.{ℕ, zero, suc, ◌==◌, Bool, List, length, map, filter, nat_lt, codes, cond}
 use Rattle.std.specs.List.{before_first, after_first, slice_split}
 use Rattle.codes.specs.Code.{Code}
@@ -37,4 +37,11 @@ cells_in text = map cell_of (words text)
 
 -- the code of a text of locators; multipliers; what follows
 abbrev pub code_in : ℕ → ℕ → List ℕ → Code
-code_in letters rows text = record { letters = letters; rows = rows; locators = numbers_in (part 0 text); multipliers = numbers_in (part 1 text) }
+code_in letters rows text =
+    record {
+      letters = letters;
+      rows = rows;
+      locators = numbers_in (part 0 text);
+      multipliers =
+          numbers_in (part 1 text);
+    }

@@ -15,15 +15,15 @@ use crate::refusals::refusal;
 use algebra::COEFFICIENTS;
 use anyhow::bail;
 use codes::{Card, Cell, CellRow, CodeOver, Word};
-use faults::FieldFault;
+use decoding::encode;
 use fields::{BinaryField, Field, FieldKind, LetteredField, PrimeField};
-use filling::encode;
-use lines::{LineRefusal, read_line};
-use pairs::realise;
+use minimal_pairs::realise;
 use std::alloc::Global;
-use tags::{Call, Event, play_script};
+use tags::{Call, Event, LineRefusal, UNPLAYED, play_script, read_line};
+use tray_file::FieldFault;
 
-// A case of a field, which stays beside it since some calls are lent it and some are given it: what is asked, the numbers after the field's, and what stands after the first ';'.
+// A case of a field, which stays beside it since some calls are lent it and some are given it: what
+// is asked, the numbers after the field's, and what stands after the first ';'.
 #[derive(Clone, Copy)]
 struct Case<'a> {
     heap: Global,
@@ -32,7 +32,8 @@ struct Case<'a> {
     rest: &'a str,
 }
 
-// A case is a word and its argument. All but a line and a refusal begin with a field: its kind, and what it is made from.
+// A case is a word and its argument. All but a line and a refusal begin with a field: its kind, and
+// what it is made from.
 pub fn answer(heap: Global, line: &str) -> anyhow::Result<String>
     ensures { IfOk result (λ text. Answered line.now (string_bytes text)) }
 {
@@ -75,7 +76,8 @@ fn case_of_field(heap: Global, word: &str, argument: &str) -> anyhow::Result<Str
 }
 
 fn case_of_kind(case: Case<'_>, kind: u32, origin: u32) -> anyhow::Result<String>
-    ensures { IfOk result (λ text. KindAnswered kind origin case.entry.word.now case.entry.numbers.now case.entry.rest.now (string_bytes text)) }
+    ensures { IfOk result (λ text. KindAnswered kind origin case.entry.word.now
+        case.entry.numbers.now case.entry.rest.now (string_bytes text)) }
 {
     let heap = case.heap;
     match FieldKind::try_from(kind) {
@@ -109,7 +111,8 @@ pub fn refused(
 
 fn field_case<F: LetteredField + Drop>(case: Case<'_>, field: F) -> anyhow::Result<String>
     requires { F.Field.accepted field }
-    ensures { IfOk result (λ text. FieldCaseAnswered (F.Field.meaning field) case.entry.word.now case.entry.numbers.now case.entry.rest.now (string_bytes text)) }
+    ensures { IfOk result (λ text. FieldCaseAnswered (F.Field.meaning field) case.entry.word.now
+        case.entry.numbers.now case.entry.rest.now (string_bytes text)) }
 {
     // One word, one call: a table of closures would be no plainer.
     match case.word {
@@ -128,7 +131,8 @@ fn field_case<F: LetteredField + Drop>(case: Case<'_>, field: F) -> anyhow::Resu
 }
 
 fn taken<F: LetteredField>(case: Case<'_>, field: &F) -> anyhow::Result<String>
-    ensures { IfOk result (λ text. string_bytes text ≡ taken_text (F.Field.meaning field.now).arithmetic) }
+    ensures { IfOk result (λ text. string_bytes text
+        ≡ taken_text (F.Field.meaning field.now).arithmetic) }
 {
     let size = field.size();
     Ok(format!(in case.heap; "taken, {size} elements")?)
@@ -136,7 +140,8 @@ fn taken<F: LetteredField>(case: Case<'_>, field: &F) -> anyhow::Result<String>
 
 // a b: the sum, the difference and the product.
 fn arithmetic<F: LetteredField>(case: Case<'_>, field: &F) -> anyhow::Result<String>
-    ensures { IfOk result (λ text. ArithmeticText (F.Field.meaning field.now).arithmetic case.entry.numbers.now (string_bytes text)) }
+    ensures { IfOk result (λ text. ArithmeticText (F.Field.meaning field.now).arithmetic
+        case.entry.numbers.now (string_bytes text)) }
 {
     let [a, b] = case.numbers else {
         bail!("arithmetic takes two numbers")
@@ -163,7 +168,8 @@ fn inverses<F: LetteredField>(case: Case<'_>, field: &F) -> anyhow::Result<Strin
 
 // For each element a one number, made of its products with every element.
 fn products<F: LetteredField>(case: Case<'_>, field: &F) -> anyhow::Result<String>
-    ensures { IfOk result (λ text. string_bytes text ≡ products_text (F.Field.meaning field.now).arithmetic) }
+    ensures { IfOk result (λ text. string_bytes text
+        ≡ products_text (F.Field.meaning field.now).arithmetic) }
 {
     let mut out = format!(in case.heap; "products")?;
     for a in 0..field.size() {
@@ -175,7 +181,8 @@ fn products<F: LetteredField>(case: Case<'_>, field: &F) -> anyhow::Result<Strin
 
 // The alphabet sizes from 0 to one above q that are admitted.
 fn admits<F: LetteredField>(case: Case<'_>, field: &F) -> anyhow::Result<String>
-    ensures { IfOk result (λ text. AdmitsText (F.Field.meaning field.now).arithmetic (string_bytes text)) }
+    ensures { IfOk result (λ text. AdmitsText (F.Field.meaning field.now).arithmetic
+        (string_bytes text)) }
 {
     let mut out = format!(in case.heap; "admits")?;
     for letters in 0..=field.size().saturating_add(1) {
@@ -188,7 +195,8 @@ fn admits<F: LetteredField>(case: Case<'_>, field: &F) -> anyhow::Result<String>
 
 // r; locators; multipliers; cells: the r sums.
 fn sums_case<F: LetteredField + Drop>(case: Case<'_>, field: F) -> anyhow::Result<String>
-    ensures { IfOk result (λ text. SumsAnswered (F.Field.meaning field).arithmetic case.entry.numbers.now case.entry.rest.now (string_bytes text)) }
+    ensures { IfOk result (λ text. SumsAnswered (F.Field.meaning field).arithmetic
+        case.entry.numbers.now case.entry.rest.now (string_bytes text)) }
 {
     let heap = case.heap;
     let [rows] = case.numbers else {
@@ -214,7 +222,8 @@ fn sums_case<F: LetteredField + Drop>(case: Case<'_>, field: F) -> anyhow::Resul
 
 // ;sequence: the degree of the minimal pair, then f and w up to their degrees.
 fn realise_case<F: LetteredField>(case: Case<'_>, field: &F) -> anyhow::Result<String>
-    ensures { IfOk result (λ text. RealiseAnswered (F.Field.meaning field.now).arithmetic (numbers_in case.entry.rest.now) (string_bytes text)) }
+    ensures { IfOk result (λ text. RealiseAnswered (F.Field.meaning field.now).arithmetic
+        (numbers_in case.entry.rest.now) (string_bytes text)) }
 {
     let sequence = read_numbers(case.heap, case.rest)?;
     let mut f = [0; COEFFICIENTS];
@@ -232,7 +241,8 @@ fn realise_case<F: LetteredField>(case: Case<'_>, field: &F) -> anyhow::Result<S
 // letters r; locators; multipliers: whether the check grants the card.
 fn card_case<F: LetteredField + Drop>(case: Case<'_>, field: F) -> anyhow::Result<String>
     requires { F.Field.accepted field }
-    ensures { IfOk result (λ text. CardAnswered (F.Field.meaning field) case.entry.numbers.now case.entry.rest.now (string_bytes text)) }
+    ensures { IfOk result (λ text. CardAnswered (F.Field.meaning field) case.entry.numbers.now
+        case.entry.rest.now (string_bytes text)) }
 {
     let heap = case.heap;
     let [letters, rows] = case.numbers else {
@@ -245,10 +255,12 @@ fn card_case<F: LetteredField + Drop>(case: Case<'_>, field: F) -> anyhow::Resul
     }
 }
 
-// letters r; locators; multipliers; data: the codeword that begins with the data, in a buffer of as many cells.
+// letters r; locators; multipliers; data: the codeword that begins with the data, in a buffer of as
+// many cells.
 fn encode_case<F: LetteredField + Drop>(case: Case<'_>, field: F) -> anyhow::Result<String>
     requires { F.Field.accepted field }
-    ensures { IfOk result (λ text. EncodeAnswered (F.Field.meaning field) case.entry.numbers.now case.entry.rest.now (string_bytes text)) }
+    ensures { IfOk result (λ text. EncodeAnswered (F.Field.meaning field) case.entry.numbers.now
+        case.entry.rest.now (string_bytes text)) }
 {
     let heap = case.heap;
     let [letters, rows] = case.numbers else {
@@ -274,7 +286,8 @@ fn encode_case<F: LetteredField + Drop>(case: Case<'_>, field: F) -> anyhow::Res
 // letters r; locators; multipliers; cells: a tag with these cells noted is read.
 fn read_case<F: LetteredField + Drop>(case: Case<'_>, field: F) -> anyhow::Result<String>
     requires { F.Field.accepted field }
-    ensures { IfOk result (λ text. ReadAnswered (F.Field.meaning field) case.entry.numbers.now case.entry.rest.now (string_bytes text)) }
+    ensures { IfOk result (λ text. ReadAnswered (F.Field.meaning field) case.entry.numbers.now
+        case.entry.rest.now (string_bytes text)) }
 {
     let heap = case.heap;
     let [letters, rows] = case.numbers else {
@@ -284,11 +297,7 @@ fn read_case<F: LetteredField + Drop>(case: Case<'_>, field: F) -> anyhow::Resul
     let calls = note_calls(heap, code.last, code.code().locators.len())?;
     match Card::check(field, code.code()) {
         Ok(card) => {
-            let blank = Event::Wipe {
-                cell: 1,
-                answer: Ok(()),
-            };
-            let mut journal = vec![in heap; blank; calls.len()]?;
+            let mut journal = vec![in heap; UNPLAYED; calls.len()]?;
             play_script(&card, calls.as_slice(), journal.as_mut_slice());
             last_read(heap, journal.as_slice())
         }
@@ -296,8 +305,8 @@ fn read_case<F: LetteredField + Drop>(case: Case<'_>, field: F) -> anyhow::Resul
     }
 }
 
-// The calls that note the cells of a text, and a read into a buffer of `length` numbers. The library allocates nothing, so a list of
-// calls is a program's.
+// The calls that note the cells of a text, and a read into a buffer of `length` numbers. The
+// library allocates nothing, so a list of calls is a program's.
 fn note_calls(heap: Global, text: &str, length: usize) -> anyhow::Result<Vec<Call<'static>>>
     ensures { IfOk result (λ calls. calls.items ≡ notes_and_read (cells_in text.now) length) }
 {

@@ -27,8 +27,10 @@ impl<'a> CodeCase<'a> {
     ) -> anyhow::Result<CodeCase<'a>>
         ensures letters { IfOk result (λ case. case.letters ≡ letters) }
         ensures rows { IfOk result (λ case. case.rows ≡ rows) }
-        ensures locators { IfOk result (λ case. case.locators.items ≡ numbers_in (part 0 text.now)) }
-        ensures multipliers { IfOk result (λ case. case.multipliers.items ≡ numbers_in (part 1 text.now)) }
+        ensures locators { IfOk result
+            (λ case. case.locators.items ≡ numbers_in (part 0 text.now)) }
+        ensures multipliers { IfOk result (λ case. case.multipliers.items
+            ≡ numbers_in (part 1 text.now)) }
         ensures last { IfOk result (λ case. case.last.now ≡ part 2 text.now) }
     {
         let (locators, rest) = cut(text);

@@ -1,4 +1,5 @@
-// Answers cases from standard input, one to a line, so that they can be compared with the results of code written apart.
+// Answers cases from standard input, one to a line, so that they can be compared with the results
+// of code written apart.
 #![tactic(auto)]
 
 mod cases;

@@ -3,20 +3,16 @@ ghost use Rattle.std.specs.Prelude.{IfOk, string_bytes};
 ghost use Rattle.vectors.specs.Answers.{RefusalShown};
 
 use crate::cases::refused;
-use codes::CardCause;
-use faults::{FieldFault, FileCause};
+use codes::{CardCause, HouseRefusal};
+use decoding::{EncodeRefusal, ReadRefusal};
 use fields::FieldCause;
-use filling::EncodeRefusal;
-use house::HouseRefusal;
-use lines::LineRefusal;
-use pairs::RealiseRefusal;
-use reading::ReadRefusal;
+use minimal_pairs::RealiseRefusal;
 use std::alloc::Global;
-use tags::NoteRefusal;
-use traywriter::WriteRefusal;
+use tags::{LineRefusal, NoteRefusal};
+use tray_file::{FieldFault, FileCause, WriteRefusal};
 
-// The refusal with this number, and its word. A number that several types have is shown by one of them; each type has a `number` of its
-// own, so no list could hold them all.
+// The refusal with this number, and its word. A number that several types have is shown by one of
+// them; each type has a `number` of its own, so no list could hold them all.
 pub fn refusal(heap: Global, number: u32) -> anyhow::Result<String>
     ensures { IfOk result (λ text. RefusalShown number (string_bytes text)) }
 {

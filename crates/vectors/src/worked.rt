@@ -1,5 +1,5 @@
-// Worked examples, whose results are proved. Each stands as it is printed elsewhere: one function for both would take all of an
-// example as its arguments.
+// Worked examples, whose results are proved. Each stands as it is printed elsewhere: one function
+// for both would take all of an example as its arguments.
 ghost use Rattle.std.specs.Prelude.{◌≡◌, [], ◌∷◌};
 ghost use Rattle.fields.specs.Modulo.{modulo};
 ghost use Rattle.codes.specs.Sums.{syndromes};

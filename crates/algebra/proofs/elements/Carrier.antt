@@ -1,5 +1,5 @@
 -- The elements of a lawful meaning as a ring and as a field with laws that hold for all elements, and each definition
--- on numbers as the abstract one read back. Assumes nothing.
+-- on numbers as the abstract one read back.
 use Rattle.std.proofs.Common.{◌≡◌, ℕ, zero, suc, ◌+◌, ◌<◌, List, [], ◌∷◌, map, length, get_or, None, sym, refl, ap, ◌∙◌, ap₂, inl, inr, arith}
 use mathlib.Core.HLevel.{Σ_prop_path, Σ_prop_discrete}
 use native.Mathlib.Bridge.{le_prop}

@@ -1,4 +1,4 @@
--- Words, points and polynomials of numbers below the size, by way of their elements. Assumes nothing.
+-- Words, points and polynomials of numbers below the size, by way of their elements.
 use Rattle.std.proofs.Common.{◌≡◌, ℕ, zero, suc, ◌<◌, ◌≤◌, Bool, true, false, cond, List, map, get_or, sym, refl, ap, ◌∙◌, ap₂, map-id, arith}
 use Rattle.std.proofs.lemmas.Bool.{both_ways}
 use Rattle.algebra.specs.Meaning.{Arithmetic, Meaning}

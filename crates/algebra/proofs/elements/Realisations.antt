@@ -1,4 +1,4 @@
--- Lists of numbers as sequences of elements, and what is made of two of them. Assumes nothing.
+-- Lists of numbers as sequences of elements, and what is made of two of them.
 use Rattle.std.proofs.Common.{◌≡◌, ℕ, suc, ◌+◌, ◌-◌, ◌<◌, List, map, get_or, sym, ap, ◌∙◌, ap₂}
 use Rattle.algebra.specs.Meaning.{Arithmetic}
 use Rattle.algebra.specs.Polynomial.{AllElements}

@@ -1,5 +1,5 @@
 -- Sums of products with a shifted sequence, and products with powers of X. Polynomials are functions that give each
--- power its coefficient. Assumes nothing.
+-- power its coefficient.
 use Rattle.std.proofs.Common.{◌≡◌, ℕ, zero, suc, ◌+◌, ◌-◌, ◌<◌, ◌≤◌, sym, refl, ap, ◌∙◌, ap₂, ⊎_elim, add-zero, add-suc, suc-add, arith}
 use Rattle.std.proofs.lemmas.Bool.{cases_lt}
 use Rattle.algebra.proofs.rings.Ring.{CommutativeRing, ⊕_𝟘, 𝟘_⊕, 𝟘_⊗, ⊕_⊗, ⊗_assoc, ⊗_left_comm, ⊖_⊗, ring_zeros}

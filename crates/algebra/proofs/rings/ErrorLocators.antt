@@ -1,6 +1,6 @@
 -- Modified syndromes and error locators: with E the erased places, the annihilator of E applied to the sums over the
 -- other places leaves power sums of the errors alone; a short polynomial that is orthogonal to these is 0 at every
--- error. Assumes nothing.
+-- error.
 use Rattle.std.proofs.Common.{◌≡◌, ℕ, suc, ◌+◌, ◌*◌, ◌<◌, ◌≤◌, Bool, true, false, cond, List, map, length, sym, ap, ◌∙◌, inl, inr, arith}
 use lib.ListN.{length-map}
 use Rattle.algebra.specs.Places.{Member, member}

@@ -1,5 +1,5 @@
 -- Words whose power sums with column multipliers are 0: two such words that differ in few places are equal, and the
--- letters at few erased places follow from the others. Assumes nothing.
+-- letters at few erased places follow from the others.
 use Rattle.std.proofs.Common.{◌≡◌, ℕ, ◌+◌, ◌<◌, ◌≤◌, Bool, true, false, cond, List, [], ◌∷◌, map, length, sym, refl, ap, ◌∙◌, ap₂, inl, inr, arith}
 use Rattle.algebra.specs.Places.{Member, Distinct, member, without}
 use Rattle.algebra.proofs.Places.{member_only, member_map, member_moved, without_here, without_there, without_absent}

@@ -1,5 +1,5 @@
 -- Lagrange interpolation at the points a_j of a list E of places below n, and the weights whose power sums at those
--- points have given values. A sum over E is a sum over all places with 0 at those outside E. Assumes nothing.
+-- points have given values. A sum over E is a sum over all places with 0 at those outside E.
 use Rattle.std.proofs.Common.{◌≡◌, ℕ, ◌<◌, ◌≤◌, Bool, true, false, cond, List, map, length, sym, ap, ◌∙◌, ap₂, inl, inr, zero-add, arith}
 use native.Mathlib.Decide.{ℕ_discrete}
 use lib.ListN.{length-map}

@@ -1,5 +1,5 @@
 -- Minimal pairs over an abstract field: what a step of the algorithm does to a pair, and why nothing of lower degree
--- fits. Polynomials are functions that give each power its coefficient. Assumes nothing.
+-- fits. Polynomials are functions that give each power its coefficient.
 use Rattle.std.proofs.Common.{◌≡◌, ℕ, suc, ◌+◌, ◌-◌, ◌<◌, ◌≤◌, sym, ap, ◌∙◌, ap₂, ⊎_elim, arith}
 use mathlib.Core.Path.{fun_ext}
 use Rattle.std.proofs.lemmas.Bool.{cases_lt}

@@ -1,5 +1,5 @@
 -- Distinct points of a field: weights whose power sums are 0 are 0, and a polynomial other than 0 has no more roots
--- than its degree. Assumes nothing.
+-- than its degree.
 use Rattle.std.proofs.Common.{◌≡◌, ℕ, zero, suc, ◌<◌, ◌≤◌, List, [], ◌∷◌, map, length, sym, refl, ap, ◌∙◌, inl, inr, arith}
 use native.Mathlib.Decide.{ℕ_discrete}
 use lib.ListN.{length-map}

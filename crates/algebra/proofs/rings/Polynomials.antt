@@ -1,5 +1,5 @@
 -- Polynomials over a commutative ring, as lists of coefficients with the constant term first: powers, evaluation,
--- the product with X − a, synthetic division by X − a, annihilators, and the action on sequences. Assumes nothing.
+-- the product with X − a, synthetic division by X − a, annihilators, and the action on sequences.
 use Rattle.std.proofs.Common.{◌≡◌, ℕ, zero, suc, pred, ◌+◌, ◌<◌, ◌≤◌, List, [], ◌∷◌, length, get_or, sym, refl, ap, ◌∙◌, ap₂, inl, inr, add-zero, add-suc, suc-add, arith}
 use Rattle.algebra.specs.Places.{Member}
 use Rattle.algebra.proofs.rings.Ring.{

@@ -1,4 +1,4 @@
--- Commutative rings and fields over any carrier, with laws that hold for all elements. Assumes nothing.
+-- Commutative rings and fields over any carrier, with laws that hold for all elements.
 use Rattle.std.proofs.Common.{◌≡◌, sym, ap, ◌∙◌}
 
 pub record CommutativeRing (A : Type 0) : Type 0 where

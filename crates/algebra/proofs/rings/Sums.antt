@@ -1,4 +1,4 @@
--- Finite sums in a commutative ring. Assumes nothing.
+-- Finite sums in a commutative ring.
 use Rattle.std.proofs.Common.{◌≡◌, ℕ, zero, suc, ◌+◌, ◌<◌, sym, refl, ap, ◌∙◌, add-zero, add-suc, arith}
 use native.Mathlib.Decide.{ℕ_discrete}
 use Rattle.algebra.proofs.rings.Ring.{CommutativeRing, ⊕_assoc, ⊕_𝟘, 𝟘_⊕, ⊗_𝟘, 𝟘_⊗, 𝟙_⊗, ⊗_⊕, ⊗_comm, ⊖_of_⊕, plus_sort, ring_zeros}

@@ -1,5 +1,5 @@
 -- The sums of a word with column multipliers, over all places and over those that are not erased; the modified sums;
--- errors. Assumes nothing.
+-- errors.
 use Rattle.std.proofs.Common.{ℕ, cond, List, map}
 use Rattle.algebra.specs.Places.{member}
 use Rattle.algebra.proofs.rings.Ring.{CommutativeRing}

@@ -4,8 +4,8 @@ use Rattle.algebra.specs.Meaning.{Meaning}
 use Rattle.codes.specs.Code.{Code}
 use Rattle.codes.specs.Checked.{Checked}
 use Rattle.codes.specs.Cards.{CardRefused}
-use Rattle.filling.specs.Encodings.{Encoded}
-use Rattle.filling.specs.declared.encode_refusal.EncodeRefusal.{EncodeRefusal}
+use Rattle.decoding.specs.encoding.Encodings.{Encoded}
+use Rattle.decoding.specs.declared.encoding.encode_refusal.EncodeRefusal.{EncodeRefusal}
 use Rattle.vectors.specs.Answers.{RefusedText}
 use Rattle.vectors.specs.Parts.{numbers_in}
 use Rattle.vectors.proofs.CodeCases.{two, same_code}

@@ -2,7 +2,7 @@ use Rattle.std.proofs.Common.{◌≡◌, ◌-◌, ◌++◌, ℕ, List, Ok, Some,
 use Rattle.std.specs.List.{slice_get}
 use Rattle.std.proofs.lemmas.List.{take_min}
 use Rattle.codes.specs.WordText.{word_text}
-use Rattle.tags.specs.declared.event.Event.TheVariants.{Read}
+use Rattle.tags.specs.declared.runs.event.Event.TheVariants.{Read}
 use Rattle.vectors.proofs.Journals.{ends}
 use Rattle.vectors.proofs.cases.last_read.Goals as goal
 

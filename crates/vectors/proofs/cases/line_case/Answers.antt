@@ -5,8 +5,8 @@ use Rattle.std.proofs.lemmas.Str.Pattern.{split_once_first}
 use Rattle.std.specs.Str.{chars}
 use Rattle.codes.specs.WordText.{cells_text}
 use Rattle.codes.specs.declared.cell.Cell.{Cell}
-use Rattle.lines.specs.Lines.{LineRead}
-use Rattle.lines.specs.declared.line.LineRefusal.{LineRefusal}
+use Rattle.tags.specs.marks.Lines.{LineRead}
+use Rattle.tags.specs.declared.marks.line.LineRefusal.{LineRefusal}
 use Rattle.vectors.specs.Parts.{numbers_in}
 use Rattle.vectors.proofs.CodeCases.{two}
 use Rattle.vectors.proofs.cases.line_case.Goals as goal

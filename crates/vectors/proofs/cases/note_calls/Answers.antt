@@ -1,8 +1,8 @@
 use Rattle.std.proofs.Common.{◌≡◌, ℕ, ◌+◌, List, [], ◌∷◌, ◌++◌, length, flat_map, append-nil, sym, ap, ◌∙◌, arith}
 use Rattle.std.specs.List.{range_with_len}
 use Rattle.codes.specs.declared.cell.Cell.{Cell}
-use Rattle.tags.specs.declared.call.Call.{Call}
-use Rattle.tags.specs.declared.call.Call.TheVariants.{Note, Read}
+use Rattle.tags.specs.declared.runs.call.Call.{Call}
+use Rattle.tags.specs.declared.runs.call.Call.TheVariants.{Note, Read}
 use Rattle.vectors.specs.ReadAnswers.{note_of, note_at, notes_and_read}
 use Rattle.vectors.proofs.Texts.{piece_more}
 use Rattle.vectors.proofs.cases.note_calls.Goals as goal

@@ -6,8 +6,8 @@ use Rattle.codes.specs.Code.{Code}
 use Rattle.codes.specs.Checked.{Checked}
 use Rattle.codes.specs.Cards.{CardRefused}
 use Rattle.codes.specs.declared.cell.Cell.{Cell}
-use Rattle.tags.specs.Runs.{RunLaw}
-use Rattle.tags.specs.declared.event.Event.{Event}
+use Rattle.tags.specs.runs.Runs.{RunLaw}
+use Rattle.tags.specs.declared.runs.event.Event.{Event}
 use Rattle.vectors.specs.Answers.{RefusedText}
 use Rattle.vectors.specs.Parts.{part, cells_in}
 use Rattle.vectors.specs.ReadAnswers.{notes_and_read, LastReadText}

@@ -1,7 +1,7 @@
 use Rattle.std.proofs.Common.{Ok, Err, string_bytes, ◌∙◌, subst, List, ℕ, replicate}
 use Rattle.std.proofs.lemmas.Result.{IfOk-weaker}
 use Rattle.algebra.specs.Limits.{coefficients}
-use Rattle.pairs.specs.MinimalPair.{Realised}
+use Rattle.minimal_pairs.specs.MinimalPair.{Realised}
 use Rattle.vectors.specs.Answers.{RefusedText}
 use Rattle.vectors.proofs.cases.realise_case.Goals as goal
 

@@ -3,7 +3,7 @@ use Rattle.algebra.specs.Meaning.{Arithmetic}
 use Rattle.codes.specs.Code.{Code, code_of}
 use Rattle.codes.specs.Sums.{syndromes}
 use Rattle.codes.specs.Cells.{blanks, noted}
-use Rattle.codes.specs.Verdicts.{Lettered, AllZero}
+use Rattle.codes.specs.Standings.{Lettered, AllZero}
 use Rattle.codes.specs.Codeword.{Codeword}
 use Rattle.codes.specs.declared.cell.Cell.{Cell}
 use Rattle.codes.proofs.Words.{letters_of, noted_letters}

@@ -4,13 +4,13 @@ use Rattle.std.specs.Str.{chars}
 use Rattle.std.proofs.lemmas.List.{take_at}
 use Rattle.codes.specs.Code.{Code}
 use Rattle.codes.specs.Cards.{card_code}
-use Rattle.codes.specs.Verdicts.{Lettered}
+use Rattle.codes.specs.Standings.{Lettered}
 use Rattle.codes.specs.declared.cell.Cell.{Cell}
-use Rattle.lines.specs.Lines.{LineRead}
-use Rattle.tags.proofs.Lettering.{lettered_line}
-use Rattle.tags.proofs.Sheets.{line_answered}
-use Rattle.tags.specs.Sheet.{width}
-use Rattle.tags.proofs.Tags.{own_line}
+use Rattle.tags.specs.marks.Lines.{LineRead}
+use Rattle.tags.proofs.tag_lemmas.Lettering.{lettered_line}
+use Rattle.tags.proofs.tag_lemmas.Sheets.{line_answered}
+use Rattle.tags.specs.tag.Sheet.{width}
+use Rattle.tags.proofs.tag_lemmas.Tags.{own_line}
 use Rattle.tags.proofs.tag.Tag.line.Goals as goal
 
 pub invariant_of-self : goal.invariant_of-self

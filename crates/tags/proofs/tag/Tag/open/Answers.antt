@@ -1,9 +1,9 @@
 use Rattle.std.proofs.Common.{length, take, replicate, sym, refl, ap, ◌∙◌, subst}
 use Rattle.std.proofs.lemmas.List.{take-replicate}
 use Rattle.codes.specs.Cells.{blank_cell}
-use Rattle.codes.specs.Verdicts.{Lettered}
+use Rattle.codes.specs.Standings.{Lettered}
 use Rattle.codes.specs.declared.cell.Cell.{Cell}
-use Rattle.tags.proofs.Lettering.{lettered_blank}
+use Rattle.tags.proofs.tag_lemmas.Lettering.{lettered_blank}
 use Rattle.tags.proofs.tag.Tag.open.Goals as goal
 
 pub invariant_of-result : goal.invariant_of-result

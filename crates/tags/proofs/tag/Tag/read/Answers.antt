@@ -1,8 +1,8 @@
 use Rattle.std.proofs.Common.{length, sym, ap, ◌∙◌, subst, arith}
 use mathlib.Core.Logic.{∥∥₁_elim}
 use Rattle.std.proofs.lemmas.List.{length-take-le}
-use Rattle.codes.specs.Verdicts.{Lettered}
-use Rattle.tags.proofs.Lettering.{lettered_prop}
+use Rattle.codes.specs.Standings.{Lettered}
+use Rattle.tags.proofs.tag_lemmas.Lettering.{lettered_prop}
 use Rattle.tags.proofs.tag.Tag.read.Goals as goal
 
 pub read_cells-requires : goal.read_cells-requires

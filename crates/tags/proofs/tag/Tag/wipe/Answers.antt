@@ -1,12 +1,12 @@
 use Rattle.std.proofs.Common.{◌-◌, List, length, take, set, sym, refl, ap, ◌∙◌, subst, ap₂, length-set}
 use Rattle.std.specs.Result.{result_ok}
 use Rattle.codes.specs.Cells.{blank_cell}
-use Rattle.codes.specs.Verdicts.{Lettered}
+use Rattle.codes.specs.Standings.{Lettered}
 use Rattle.codes.specs.declared.cell.Cell.{Cell}
 use Rattle.codes.specs.Cards.{card_code}
-use Rattle.tags.specs.Sheet.{width}
-use Rattle.tags.proofs.Lettering.{lettered_changed}
-use Rattle.tags.proofs.Sheets.{a_cell, a_place, wipe_accepted, changed_cell}
+use Rattle.tags.specs.tag.Sheet.{width}
+use Rattle.tags.proofs.tag_lemmas.Lettering.{lettered_changed}
+use Rattle.tags.proofs.tag_lemmas.Sheets.{a_cell, a_place, wipe_accepted, changed_cell}
 use Rattle.tags.proofs.tag.Tag.wipe.Goals as goal
 
 pub invariant_of-self : goal.invariant_of-self

@@ -1,9 +1,0 @@
--- The number of each refusal of cells. Assumes nothing.
-use Rattle.std.specs.Prelude.{ℕ}
-use Rattle.faults.specs.Layers.{body_fault_number}
-use Rattle.bodies.specs.declared.cells_refusal.CellsRefusal.{CellsRefusal}
-use Rattle.bodies.specs.declared.cells_refusal.CellsRefusal.TheVariants.{WrongLength, Body}
-
-abbrev pub cells_refusal_number : CellsRefusal → ℕ
-cells_refusal_number WrongLength = 25
-cells_refusal_number (Body fault) = body_fault_number fault

@@ -1,3 +1,0 @@
-// The longest note; specs/Notes.antt has the same for the contracts, which hold the two together.
-/// The most bytes that a note may have.
-pub const LONGEST_NOTE: usize = 200;

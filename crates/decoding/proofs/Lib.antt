@@ -1,0 +1,3 @@
+pub mod filling_lemmas
+pub mod encoding_lemmas
+pub mod reading_lemmas

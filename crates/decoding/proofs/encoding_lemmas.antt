@@ -1,0 +1,3 @@
+pub mod DataCells
+pub mod EncodedWords
+pub mod CodeExamples

@@ -1,0 +1,3 @@
+pub mod Polynomials
+pub mod Blanks
+pub mod FilledWords

@@ -1,0 +1,74 @@
+// Filling erased cells.
+mod erasures;
+mod fill_refusal;
+mod polynomial;
+
+ghost use Rattle.std.specs.Prelude.{◌≡◌};
+ghost use Rattle.codes.specs.Code.{code_of};
+ghost use Rattle.decoding.specs.filling.Fillings.{filled, FillLengths, FewBlanks, Filling, FillingLaws};
+
+use algebra::LARGEST_ROWS;
+use codes::{Cell, CodeOver, count_blanks};
+use erasures::Erasures;
+pub(crate) use erasures::blank_annihilator;
+use fields::Field;
+pub use fill_refusal::FillRefusal;
+pub(crate) use polynomial::Polynomial;
+
+/// Writes into `word`, a buffer of n numbers, the noted letters and, at the blanks, the letters
+/// that `sums` give: the r sums over the noted cells. Over a card, a codeword that agrees with the
+/// noted cells has these letters. Refused with 25 where the cells, the multipliers or the buffer
+/// are not as many as the locators, or there is not a sum for each row, then 23 where more cells
+/// are blank than the code has rows, or more than 64. The buffer is then as it was.
+pub fn fill<F: Field>(
+    over: CodeOver<'_, F>,
+    cells: &[Cell],
+    sums: &[u32],
+    word: &mut [u32],
+) -> Result<(), FillRefusal>
+    ensures outcome { Filling (F.Field.meaning over.entry.field.now) (code_of over.entry.code)
+        cells.now sums.now word.old word.new result }
+    ensures laws { FillingLaws (F.Field.meaning over.entry.field.now) (code_of over.entry.code) }
+{
+    let code = over.code;
+    let n = code.locators.len();
+    if code.multipliers.len() != n
+        || cells.len() != n
+        || sums.len() != code.rows
+        || word.len() != n
+    {
+        return Err(FillRefusal::WrongLength);
+    }
+    // A code that is no card's may have more rows than a polynomial has places for.
+    let blanks = count_blanks(cells);
+    if blanks > code.rows || blanks > LARGEST_ROWS {
+        return Err(FillRefusal::TooBlank);
+    }
+    write_letters(over, cells, sums, word);
+    Ok(())
+}
+
+// The same, where no refusal is due.
+pub(crate) fn write_letters<F: Field>(
+    over: CodeOver<'_, F>,
+    cells: &[Cell],
+    sums: &[u32],
+    word: &mut [u32],
+)
+    requires lengths { FillLengths (code_of over.code) cells.now sums.now word.old }
+    requires few { FewBlanks (code_of over.code) cells.now }
+    ensures { word.new ≡ filled (F.Field.meaning over.entry.field.now) (code_of over.entry.code)
+        cells.now sums.now }
+{
+    let code = over.code;
+    let erasures = Erasures {
+        field: over.field,
+        annihilator: &blank_annihilator(over.field, code.locators, cells),
+        sums,
+    };
+    // A zip on `iter_mut` tells a proof nothing of what is written, so the other lists are read at
+    // the index.
+    for (j, letter) in word.iter_mut().enumerate() {
+        *letter = erasures.letter_of(cells[j], code.locators[j], code.multipliers[j]);
+    }
+}

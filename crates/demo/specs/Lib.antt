@@ -1,0 +1,5 @@
+pub mod inked
+pub mod Found
+pub mod Filed
+pub mod MarkTexts
+pub mod Texts

@@ -1,4 +1,0 @@
-pub mod Polynomials
-pub mod Fillings
-pub mod Encodings
-pub mod CodeExamples

@@ -1,8 +1,0 @@
-// What the definitions are held to on examples.
-ghost use Rattle.filling.specs.CodeExamples.{EncodingExample};
-
-/// What the definition of encoding gives in an example. The call does nothing: its clause is the
-/// example.
-pub fn code_examples()
-    ensures { EncodingExample }
-{}

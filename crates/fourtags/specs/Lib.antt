@@ -1,3 +1,0 @@
-pub mod FourCards
-pub mod FourRuns
-pub mod EventTexts

@@ -1,0 +1,80 @@
+-- The words of the contracts of what this crate passes on: each file of definitions, under its own
+-- name, from the crate that has it. The types that clauses name are in `types`.
+pub mod types
+-- fields: what they mean and their laws, the two kinds, alphabets
+pub use Rattle.algebra.specs.Limits
+pub use Rattle.algebra.specs.Meaning
+pub use Rattle.algebra.specs.Laws
+pub use Rattle.algebra.specs.Alphabet
+pub use Rattle.algebra.specs.Power
+pub use Rattle.fields.specs.Causes
+pub use Rattle.fields.specs.Elements
+pub use Rattle.fields.specs.FieldKinds
+pub use Rattle.fields.specs.Kinds
+pub use Rattle.fields.specs.Modulo
+pub use Rattle.fields.specs.Prime
+pub use Rattle.fields.specs.CarrylessProduct
+pub use Rattle.fields.specs.LongDivision
+pub use Rattle.fields.specs.Irreducible
+pub use Rattle.fields.specs.BinaryArithmetic
+pub use Rattle.fields.specs.Binary
+pub use Rattle.fields.specs.InverseLaws
+-- cards and codes: cells, sums, codewords, checking, the house cards, filling and encoding
+pub use Rattle.algebra.specs.Polynomial
+pub use Rattle.algebra.specs.Theorems
+pub use Rattle.codes.specs.Code
+pub use Rattle.codes.specs.Checked
+pub use Rattle.codes.specs.Cards
+pub use Rattle.codes.specs.AnyCards
+pub use Rattle.codes.specs.Cells
+pub use Rattle.codes.specs.Sums
+pub use Rattle.codes.specs.Codeword
+pub use Rattle.codes.specs.Standings
+pub use Rattle.codes.specs.WordText
+pub use Rattle.codes.specs.CountedLists
+pub use Rattle.codes.specs.house.HouseRows
+pub use Rattle.codes.specs.house.HouseCards
+pub use Rattle.decoding.specs.filling.Fillings
+pub use Rattle.decoding.specs.encoding.Encodings
+-- minimal pairs
+pub use Rattle.algebra.specs.Realisation
+pub use Rattle.minimal_pairs.specs.MinimalPair
+-- tags: reading, marks, the sheet, runs of calls
+pub use Rattle.decoding.specs.reading.Reading
+pub use Rattle.tags.specs.marks.Marks
+pub use Rattle.tags.specs.marks.Lines
+pub use Rattle.tags.specs.tag.Sheet
+pub use Rattle.tags.specs.tag.Tags
+pub use Rattle.tags.specs.runs.Calls
+pub use Rattle.tags.specs.runs.Runs
+pub use Rattle.tags.specs.runs.Scripts
+-- tray files: numbers, bodies, faults, records, a file, the reader, the writers, the lines of a
+-- file
+pub use Rattle.tray_file.specs.number.Numbers
+pub use Rattle.tray_file.specs.fault.Layers
+pub use Rattle.tray_file.specs.fault.Faults
+pub use Rattle.tray_file.specs.body.NumberLists
+pub use Rattle.tray_file.specs.body.CardHeads
+pub use Rattle.tray_file.specs.body.CardShapes
+pub use Rattle.tray_file.specs.body.CardBodies
+pub use Rattle.tray_file.specs.body.CellBodies
+pub use Rattle.tray_file.specs.body.CellRefusals
+pub use Rattle.tray_file.specs.body.Notes
+pub use Rattle.tray_file.specs.body.SameCards
+pub use Rattle.tray_file.specs.reader.RecordKinds
+pub use Rattle.tray_file.specs.reader.Turns
+pub use Rattle.tray_file.specs.reader.Entries
+pub use Rattle.tray_file.specs.reader.Headers
+pub use Rattle.tray_file.specs.reader.Records
+pub use Rattle.tray_file.specs.reader.Files
+pub use Rattle.tray_file.specs.reader.Readers
+pub use Rattle.tray_file.specs.writer.WriteRefusals
+pub use Rattle.tray_file.specs.writer.Writing
+pub use Rattle.tray_file.specs.writer.Writers
+pub use Rattle.tray_file.specs.writer.ReadingBack
+pub use Rattle.tray_report.specs.LastCards
+pub use Rattle.tray_report.specs.WordReading
+pub use Rattle.tray_report.specs.WordUnder
+pub use Rattle.tray_report.specs.FileLines
+pub use Rattle.tray_report.specs.FileText
+pub use Rattle.tray_report.specs.ReportLines

@@ -1,4 +1,0 @@
-pub mod NumberBytes
-pub mod ReadBytes
-pub mod WrittenBytes
-mod NumberExamples

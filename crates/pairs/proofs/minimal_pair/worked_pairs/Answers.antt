@@ -1,8 +1,0 @@
-use Rattle.std.proofs.Common.{refl}
-use Rattle.pairs.specs.Poly.{up_to}
-use Rattle.pairs.specs.MinimalPair.{state_after}
-use Rattle.pairs.proofs.minimal_pair.worked_pairs.Goals as goal
-
-pub returns : goal.returns
-unfolding state_after up_to
-returns c = record { modulo_seven = (refl, refl, refl); empty = λ A. (refl, refl, refl) }

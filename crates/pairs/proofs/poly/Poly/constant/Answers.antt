@@ -1,7 +1,0 @@
-use Rattle.std.proofs.Common.{refl}
-use Rattle.pairs.specs.Poly.{up_to}
-use Rattle.pairs.proofs.poly.Poly.constant.Goals as goal
-
-pub returns : goal.returns
-unfolding up_to
-returns c = refl

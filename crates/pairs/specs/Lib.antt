@@ -1,3 +1,0 @@
-pub mod Poly
-pub mod MinimalPair
-pub mod WorkedPairs

@@ -1,8 +1,0 @@
-use Rattle.std.proofs.Common.{◌≡◌, ℕ, ◌<◌, get_or}
-use Rattle.algebra.specs.Polynomial.{act}
-use Rattle.filling.specs.Fillings.{number_at}
-use Rattle.filling.specs.Polynomials.{coefficients_of}
-use Rattle.reading.proofs.reading.locator.modified_sums.Given as goal
-
-abbrev pub invariant-loop-k : goal.invariant-loop-k
-invariant-loop-k g l = (k : ℕ) → k < l.k → get_or l.modified k 0 ≡ act (g.F.Field.meaning l.field).arithmetic (coefficients_of l.product) (number_at l.sums) k

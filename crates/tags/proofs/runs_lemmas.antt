@@ -1,0 +1,4 @@
+pub mod Buffers
+pub mod Journals
+pub mod Scripts
+pub mod Staying

@@ -1,0 +1,14 @@
+// Runs of calls: a worker picks them, and a journal keeps each with its answer.
+mod call;
+mod event;
+mod run;
+mod script;
+mod script_play;
+mod worker;
+
+pub use call::Call;
+pub use event::{BUFFER, Event, UNPLAYED, UNTOUCHED};
+pub use run::{Played, work_tag};
+pub use script::Script;
+pub use script_play::play_script;
+pub use worker::Worker;

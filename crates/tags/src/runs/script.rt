@@ -1,0 +1,9 @@
+// A worker whose calls are known beforehand.
+use crate::runs::call::Call;
+
+/// A worker whose calls are known beforehand: it makes them one after another, and stops after the
+/// last.
+#[derive(Clone, Copy)]
+pub struct Script<'a, 'b> {
+    pub calls: &'b [Call<'a>],
+}

@@ -1,9 +1,0 @@
-// A worker whose calls are known beforehand.
-use crate::call::Call;
-
-/// A worker whose calls are known beforehand: it makes them one after another, and stops after the
-/// last.
-#[derive(Clone, Copy)]
-pub struct Script<'a, 'b> {
-    pub calls: &'b [Call<'a>],
-}

@@ -1,0 +1,4 @@
+pub mod NumberBytes
+pub mod ReadBytes
+pub mod WrittenBytes
+pub mod NumberExamples

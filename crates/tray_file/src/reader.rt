@@ -1,0 +1,82 @@
+// A reader over a file's bytes: its records, one after another.
+mod header;
+mod kind;
+mod limits;
+mod record;
+mod record_reading;
+mod turn;
+
+ghost use Rattle.std.specs.Prelude.{◌≡◌};
+ghost use Rattle.tray_file.specs.reader.Readers.{Opened, Next, EveryRun, RecordReadsBack};
+ghost use Rattle.tray_file.specs.reader.Files.{OneFile};
+
+use crate::fault::{Fault, FileCause, file_fault};
+use crate::reader::record_reading::{part, read_record};
+use crate::reader::turn::Turn;
+pub use kind::{Kind, NoSuchKind};
+pub use limits::LONGEST_FILE;
+pub use record::Record;
+use record::record_of;
+
+/// A reader over a file's bytes, which answers one record after another. The bytes may be any.
+#[derive(Clone, Copy)]
+pub struct TrayReader<'a> {
+    file: &'a [u8],
+    // Where the next record begins, and what is in turn there.
+    place: usize,
+    turn: Turn,
+    // The fault that ended the reading.
+    fault: Option<Fault>,
+}
+
+impl<'a> TrayReader<'a> {
+    /// A reader at the file's first byte. A file of more than 60,000 bytes has its fault, 37, at
+    /// once.
+    pub fn new(file: &'a [u8]) -> TrayReader<'a>
+        ensures { Opened file.now result }
+    {
+        let too_long = file_fault(0, FileCause::LongFile);
+        let fault = (file.len() > LONGEST_FILE).then_some(too_long);
+        TrayReader {
+            file,
+            place: 0,
+            turn: Turn::Start,
+            fault,
+        }
+    }
+
+    /// Where the next record begins, in the file's bytes from 0. A fault leaves it where it was.
+    pub fn place(&self) -> usize
+        ensures { result ≡ self.now.place }
+    {
+        self.place
+    }
+
+    /// The next record, nothing at the file's end, or a fault, which is repeated ever after. No
+    /// `Iterator`: a fault has no end, and the place is asked for between two records.
+    pub fn next(&mut self) -> Option<Result<Record<'a>, Fault>>
+        ensures step { Next self.old result self.new }
+        ensures runs { EveryRun }
+        ensures back { RecordReadsBack }
+        ensures one { OneFile }
+    {
+        if let Some(fault) = self.fault {
+            return Some(Err(fault));
+        }
+        if self.place >= self.file.len() {
+            return None;
+        }
+        match read_record(self.file, self.place, self.turn) {
+            Ok(step) => {
+                let body = part(self.file, step.body, step.end);
+                self.place = step.end;
+                self.turn = step.turn;
+                Some(Ok(record_of(step.kind, body)))
+            }
+            Err(fault) => {
+                self.fault = Some(fault);
+                Some(Err(fault))
+            }
+        }
+    }
+}

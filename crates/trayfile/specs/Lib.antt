@@ -1,8 +1,0 @@
-pub mod Faults
-pub mod Kinds
-pub mod Turns
-pub mod Entries
-pub mod Headers
-pub mod Records
-pub mod Files
-pub mod Readers

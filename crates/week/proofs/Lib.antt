@@ -1,3 +1,0 @@
-pub mod LineAndRead
-pub mod MarkTable
-pub mod FiledTags

@@ -1,4 +1,0 @@
-pub mod Found
-pub mod Filed
-pub mod MarkTexts
-pub mod Texts
