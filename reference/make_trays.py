@@ -1,5 +1,5 @@
 #!/usr/bin/env python3
-"""Writes the tray files of crates/trays, in hexadecimal, and the lines that each gives.
+"""Writes the tray files of crates/tray_cases, in hexadecimal, and the lines that each gives.
 
     python3 reference/make_trays.py
 
@@ -13,7 +13,7 @@ from code import encode
 from field import Binary, Prime
 from tray_file import card_record, cells_record, lines, note_record, number_bytes, record
 
-FOLDER = Path(__file__).resolve().parent.parent / "crates" / "trays"
+FOLDER = Path(__file__).resolve().parent.parent / "crates" / "tray_cases"
 SAMPLE = bytes.fromhex("0111010707060400010203040501010101010102060206040501070206000000000007")
 CARDS = [
     (Prime(7), 7, 4, list(range(6)), [1] * 6),
