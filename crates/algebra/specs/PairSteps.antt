@@ -29,7 +29,8 @@ pub record Kept (A : Arithmetic) (s : List ℕ) (m m' : ℕ) (f w : List ℕ) (D
 -- g is a × p − b × X^d × q up to X^m, and has no coefficient above
 pub record Combined (A : Arithmetic) (a : ℕ) (p : List ℕ) (b d : ℕ) (q : List ℕ) (m : ℕ)
     (g : List ℕ) : Type 0 where
-  pub same : (j : ℕ) → j ≤ m → slice_index g j ≡
-      cond (nat_lt j d) (A.times a (slice_index p j))
+  pub same : (j : ℕ) → j ≤ m
+      → slice_index g j
+      ≡ cond (nat_lt j d) (A.times a (slice_index p j))
       (A.minus (A.times a (slice_index p j)) (A.times b (slice_index q (j - d))))
   pub above : (j : ℕ) → m < j → slice_index g j ≡ 0

@@ -33,17 +33,16 @@ TimesPowerIs A = (x a k : ℕ) → x < A.size → times_power A x a k ≡ A.time
 -- undoes it
 abbrev pub Reordering : Arithmetic → Type 0
 Reordering A =
-    (n : ℕ) (f p q : ℕ → ℕ) → Elements A n f → ((i : ℕ) → i < n → p i < n) →
-    ((i : ℕ) → i < n → q i < n) →
-    ((i : ℕ) → i < n → q (p i) ≡ i) → ((i : ℕ) → i < n → p (q i) ≡ i)
-    → sum A n (λ i. f (p i)) ≡ sum A n f
+    (n : ℕ) (f p q : ℕ → ℕ) → Elements A n f → ((i : ℕ) → i < n → p i < n)
+    → ((i : ℕ) → i < n → q i < n) → ((i : ℕ) → i < n → q (p i) ≡ i)
+    → ((i : ℕ) → i < n → p (q i) ≡ i) → sum A n (λ i. f (p i)) ≡ sum A n f
 
 -- p(x) = p(a) + (x − a) q(x), with q the quotient of p by X − a
 abbrev pub Division : Arithmetic → Type 0
 Division A =
-    (a x : ℕ) (p : List ℕ) → a < A.size → x < A.size → AllElements A p →
-    evaluate A p x ≡ A.plus (evaluate A p a)
-    (A.times (A.minus x a) (evaluate A (quotient_linear A a p) x))
+    (a x : ℕ) (p : List ℕ) → a < A.size → x < A.size → AllElements A p
+    → evaluate A p x
+    ≡ A.plus (evaluate A p a) (A.times (A.minus x a) (evaluate A (quotient_linear A a p) x))
 
 -- the annihilator of a list of points has leading coefficient 1
 abbrev pub AnnihilatorMonic : Arithmetic → Type 0
@@ -60,9 +59,9 @@ AnnihilatorRoots A =
 -- in a field it is 0 at its points only
 abbrev pub AnnihilatorRootsOnly : Meaning → Type 0
 AnnihilatorRootsOnly m =
-    (points : List ℕ) → ((i : ℕ) → Member i points → i < m.arithmetic.size) → (x : ℕ) →
-    x < m.arithmetic.size →
-    evaluate m.arithmetic (annihilator m.arithmetic points) x ≡ 0 → Member x points
+    (points : List ℕ) → ((i : ℕ) → Member i points → i < m.arithmetic.size)
+    → (x : ℕ) → x < m.arithmetic.size
+    → evaluate m.arithmetic (annihilator m.arithmetic points) x ≡ 0 → Member x points
 
 -- weights x with at most r places other than 0, whose sums Σ x_i a_i^k are 0 for every k below r,
 -- are all 0
@@ -76,9 +75,9 @@ Kernel m =
 -- a polynomial with at most n coefficients that is 0 at n distinct points has every coefficient 0
 abbrev pub RootCount : Meaning → Type 0
 RootCount m =
-    (n : ℕ) (a : ℕ → ℕ) (p : List ℕ) → Locators m.arithmetic n a → AllElements m.arithmetic p →
-    length p ≤ n →
-    ((i : ℕ) → i < n → evaluate m.arithmetic p (a i) ≡ 0) → (k : ℕ) → slice_index p k ≡ 0
+    (n : ℕ) (a : ℕ → ℕ) (p : List ℕ) → Locators m.arithmetic n a → AllElements m.arithmetic p
+    → length p ≤ n → ((i : ℕ) → i < n → evaluate m.arithmetic p (a i) ≡ 0)
+    → (k : ℕ) → slice_index p k ≡ 0
 
 -- the product of X − a_i over the places i of E other than j, as a quotient
 abbrev pub cofactor : Arithmetic → (ℕ → ℕ) → List ℕ → ℕ → List ℕ
@@ -87,24 +86,22 @@ cofactor A a E j = quotient_linear A (a j) (annihilator A (map a E))
 -- the cofactor is the annihilator of the other places
 abbrev pub CofactorIs : Arithmetic → Type 0
 CofactorIs A =
-    (a : ℕ → ℕ) (E : List ℕ) → ((i : ℕ) → Member i E → a i < A.size) → Distinct E → (j : ℕ) →
-    Member j E →
-    cofactor A a E j ≡ annihilator A (map a (without j E))
+    (a : ℕ → ℕ) (E : List ℕ) → ((i : ℕ) → Member i E → a i < A.size) → Distinct E
+    → (j : ℕ) → Member j E → cofactor A a E j ≡ annihilator A (map a (without j E))
 
 -- the polynomial p with at most |E| coefficients is Σ p(a_j) / P_j(a_j) P_j over j in E, with P_j
 -- the cofactors
 abbrev pub Interpolation : Meaning → Type 0
 Interpolation m =
-    (n : ℕ) (a : ℕ → ℕ) (E p : List ℕ) → Locators m.arithmetic n a → DistinctPlaces n E →
-    AllElements m.arithmetic p → length p ≤ length E → (k : ℕ) → k < length E →
-    slice_index p k ≡
-    sum m.arithmetic n (λ j.
-    cond (member j E)
+    (n : ℕ) (a : ℕ → ℕ) (E p : List ℕ) → Locators m.arithmetic n a → DistinctPlaces n E
+    → AllElements m.arithmetic p → length p ≤ length E → (k : ℕ) → k < length E
+    → slice_index p k
+    ≡ sum m.arithmetic n
+    (λ j. cond (member j E)
     (m.arithmetic.times
     (divide m (evaluate m.arithmetic p (a j))
     (evaluate m.arithmetic (cofactor m.arithmetic a E j) (a j)))
-    (slice_index (cofactor m.arithmetic a E j) k))
-    0)
+    (slice_index (cofactor m.arithmetic a E j) k)) 0)
 
 -- weights at E whose power sums are y_0, y_1, ..
 abbrev pub solution : Meaning → (ℕ → ℕ) → List ℕ → (ℕ → ℕ) → ℕ → ℕ
@@ -115,11 +112,10 @@ solution m a E y j =
 -- |E| points reach every |E| right sides
 abbrev pub Surjectivity : Meaning → Type 0
 Surjectivity m =
-    (n : ℕ) (a y : ℕ → ℕ) (E : List ℕ) → Locators m.arithmetic n a → DistinctPlaces n E →
-    Elements m.arithmetic (length E) y →
-    (k : ℕ) → k < length E →
-    sum m.arithmetic n (λ j. cond (member j E)
-    (times_power m.arithmetic (solution m a E y j) (a j) k) 0) ≡ y k
+    (n : ℕ) (a y : ℕ → ℕ) (E : List ℕ) → Locators m.arithmetic n a → DistinctPlaces n E
+    → Elements m.arithmetic (length E) y → (k : ℕ) → k < length E
+    → sum m.arithmetic n
+    (λ j. cond (member j E) (times_power m.arithmetic (solution m a E y j) (a j) k) 0) ≡ y k
 
 -- the sum Σ v_j h_j a_j^k of a word v
 abbrev pub word_sum : Arithmetic → ℕ → (ℕ → ℕ) → (ℕ → ℕ) → (ℕ → ℕ) → ℕ → ℕ
@@ -133,18 +129,17 @@ noted_sum A n a h E v k =
 -- every order of the cells gives the same sums
 abbrev pub WordReordering : Arithmetic → Type 0
 WordReordering A =
-    (n k : ℕ) (a h v p q : ℕ → ℕ) → ((i : ℕ) → i < n → p i < n) → ((i : ℕ) → i < n → q i < n) →
-    ((i : ℕ) → i < n → q (p i) ≡ i) → ((i : ℕ) → i < n → p (q i) ≡ i) →
-    word_sum A n (λ i. a (p i)) (λ i. h (p i)) (λ i. v (p i)) k ≡ word_sum A n a h v k
+    (n k : ℕ) (a h v p q : ℕ → ℕ) → ((i : ℕ) → i < n → p i < n) → ((i : ℕ) → i < n → q i < n)
+    → ((i : ℕ) → i < n → q (p i) ≡ i) → ((i : ℕ) → i < n → p (q i) ≡ i)
+    → word_sum A n (λ i. a (p i)) (λ i. h (p i)) (λ i. v (p i)) k ≡ word_sum A n a h v k
 
 -- two words with r sums 0 that differ in at most r places are equal
 abbrev pub Distance : Meaning → Type 0
 Distance m =
-    (n r : ℕ) (a h v w : ℕ → ℕ) → Locators m.arithmetic n a → Multipliers m.arithmetic n h →
-    Elements m.arithmetic n v → Elements m.arithmetic n w → distance n v w ≤ r →
-    ((k : ℕ) → k < r → word_sum m.arithmetic n a h v k ≡ 0) →
-    ((k : ℕ) → k < r → word_sum m.arithmetic n a h w k ≡ 0) →
-    (i : ℕ) → i < n → v i ≡ w i
+    (n r : ℕ) (a h v w : ℕ → ℕ) → Locators m.arithmetic n a → Multipliers m.arithmetic n h
+    → Elements m.arithmetic n v → Elements m.arithmetic n w → distance n v w ≤ r
+    → ((k : ℕ) → k < r → word_sum m.arithmetic n a h v k ≡ 0)
+    → ((k : ℕ) → k < r → word_sum m.arithmetic n a h w k ≡ 0) → (i : ℕ) → i < n → v i ≡ w i
 
 -- the letter at the erased place j from the sums S over the places outside E: −(Σ_k P_k S_k) / (h_j
 -- P(a_j)), P the cofactor of j
@@ -157,12 +152,11 @@ erased_letter m a h E S j =
 -- letters at E
 abbrev pub FillingOnly : Meaning → Type 0
 FillingOnly m =
-    (n r : ℕ) (a h u v : ℕ → ℕ) (E : List ℕ) → Locators m.arithmetic n a →
-    Multipliers m.arithmetic n h →
-    Elements m.arithmetic n v → DistinctPlaces n E → length E ≤ r →
-    ((k : ℕ) → k < r → word_sum m.arithmetic n a h v k ≡ 0) →
-    ((j : ℕ) → j < n → (Member j E → ⊥) → u j ≡ v j) →
-    (j : ℕ) → Member j E → v j ≡ erased_letter m a h E (noted_sum m.arithmetic n a h E u) j
+    (n r : ℕ) (a h u v : ℕ → ℕ) (E : List ℕ) → Locators m.arithmetic n a
+    → Multipliers m.arithmetic n h → Elements m.arithmetic n v → DistinctPlaces n E → length E ≤ r
+    → ((k : ℕ) → k < r → word_sum m.arithmetic n a h v k ≡ 0)
+    → ((j : ℕ) → j < n → (Member j E → ⊥) → u j ≡ v j) → (j : ℕ) → Member j E
+    → v j ≡ erased_letter m a h E (noted_sum m.arithmetic n a h E u) j
 
 -- with as many erased places as sums, these letters make all sums 0, whatever the letters u outside
 -- E are

@@ -13,8 +13,7 @@ modulo_7 =
       size = 7;
       plus = λ a b. (a + b) % 7;
       minus = λ a b. (a + (7 - b)) % 7;
-      times = λ a b.
-          a * b % 7;
+      times = λ a b. a * b % 7;
     }
 
 abbrev pub field_of_7 : Meaning

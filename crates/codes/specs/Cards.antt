@@ -35,7 +35,7 @@ CardRefused m code BadMultiplier =
 
 -- A granted card holds exactly what was given and is checked; else the first broken rule is
 -- answered.
-abbrev pub CardMade : {F : Type 0} {g : Ghosts F} → Meaning → F → Code → Result (Card F g) CardCause
-    → Type 0
+abbrev pub CardMade : {F : Type 0} {g : Ghosts F} → Meaning → F → Code
+    → Result (Card F g) CardCause → Type 0
 CardMade m field code (Ok card) = (card.field ≡ field) × (card_code card ≡ code) × Checked m code
 CardMade m field code (Err cause) = CardRefused m code cause

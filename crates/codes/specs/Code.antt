@@ -21,6 +21,5 @@ code_of c =
       letters = c.letters;
       rows = c.rows;
       locators = c.locators.now;
-      multipliers =
-          c.multipliers.now;
+      multipliers = c.multipliers.now;
     }

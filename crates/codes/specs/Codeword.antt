@@ -7,8 +7,8 @@ use Rattle.codes.specs.Code.{Code}
 -- the sum of row k over all letters of a word: letter × multiplier × locator^k of each
 abbrev pub row_sum : Arithmetic → Code → List ℕ → ℕ → ℕ
 row_sum A code word k =
-    sum A (length word) (λ j.
-    times_power A (A.times (slice_index word j) (slice_index code.multipliers j))
+    sum A (length word)
+    (λ j. times_power A (A.times (slice_index word j) (slice_index code.multipliers j))
     (slice_index code.locators j) k)
 
 -- a letter below the alphabet size for each cell, and all row sums 0

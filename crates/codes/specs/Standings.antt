@@ -21,8 +21,8 @@ Judged A code cells Damaged =
 
 -- The sums stand in the buffer beside the standing where the lengths are right; else the refusal is
 -- 25, and the buffer is as it was.
-abbrev pub Judgement : Arithmetic → Code → List Cell → List ℕ → List ℕ → Result Standing SumsRefusal
-    → Type 0
+abbrev pub Judgement : Arithmetic → Code → List Cell → List ℕ → List ℕ
+    → Result Standing SumsRefusal → Type 0
 Judgement A code cells before after (Ok standing) =
     Lengths code cells before × (after ≡ syndromes A code cells) × Judged A code cells standing
 Judgement A code cells before after (Err refusal) =

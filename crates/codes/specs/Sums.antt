@@ -42,8 +42,8 @@ sums_number WrongLength = 25
 
 -- The sums stand in the buffer where the lengths are right; else the refusal is 25, and the buffer
 -- is as it was.
-abbrev pub Summed : Arithmetic → Code → List Cell → List ℕ → List ℕ → Result (Unit {0}) SumsRefusal
-    → Type 0
+abbrev pub Summed : Arithmetic → Code → List Cell → List ℕ → List ℕ
+    → Result (Unit {0}) SumsRefusal → Type 0
 Summed A code cells before after (Ok done) =
     Lengths code cells before × (after ≡ syndromes A code cells)
 Summed A code cells before after (Err refusal) =

@@ -78,10 +78,8 @@ whole_alphabet p prime =
     record {
       two = prime.two;
       elements = omega arith;
-      plus_closed = λ a b ha hb.
-          t.plus_element a b;
-      minus_closed = λ a b ha hb.
-          t.minus_element a b;
+      plus_closed = λ a b ha hb. t.plus_element a b;
+      minus_closed = λ a b ha hb. t.minus_element a b;
       times_closed = λ a b ha hb. t.times_element a b;
     }
 

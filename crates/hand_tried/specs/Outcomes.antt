@@ -15,11 +15,12 @@ use Rattle.decoding.specs.declared.reading.read_answer.ReadRefusal.{ReadRefusal}
 -- Whatever buffer of the right length a call is lent, this answer and this buffer after it meet the
 -- relation that its contract names, and no others do.
 pub record Outcome {Buffer Answer : Type 0} (room : Buffer → Type 0)
-    (meets : Buffer → Buffer → Answer → Type 0) (left : Buffer → Buffer) (answer : Answer)
-    : Type 0 where
+    (meets : Buffer → Buffer → Answer → Type 0) (left : Buffer → Buffer)
+    (answer : Answer) : Type 0 where
   pub this : (before : Buffer) → room before → meets before (left before) answer
-  pub only : (before : Buffer) → room before → (after : Buffer) (other : Answer)
-      → meets before after other → (after ≡ left before) × (other ≡ answer)
+  pub only : (before : Buffer) → room before
+      → (after : Buffer) (other : Answer) → meets before after other
+      → (after ≡ left before) × (other ≡ answer)
 
 -- a buffer of n numbers
 abbrev pub Places : ℕ → List ℕ → Type 0

@@ -31,8 +31,7 @@ passed st =
       pair = st.pair;
       degree = st.degree;
       kept = st.kept;
-      kept_discrepancy =
-          st.kept_discrepancy;
+      kept_discrepancy = st.kept_discrepancy;
       d = st.d -ℤ pos 1;
     }
 
@@ -43,8 +42,7 @@ changed D st =
     let d = neg_ℤ st.d in
     record {
       pair = st.kept;
-      degree = st.degree
-          + unsigned_abs d;
+      degree = st.degree + unsigned_abs d;
       kept = st.pair;
       kept_discrepancy = D;
       d = d;
@@ -59,8 +57,7 @@ abbrev pub updated : Arithmetic → ℕ → State → State
 updated A D st = record {
   pair = record {
     f = stepped_poly A D st st.pair.f st.kept.f;
-    w = stepped_poly A D st st.pair.w
-        st.kept.w;
+    w = stepped_poly A D st st.pair.w st.kept.w;
   };
   degree = st.degree;
   kept = st.kept;
@@ -115,8 +112,7 @@ realise_number NoElement = 17
 abbrev pub Realised : Arithmetic → List ℕ → List ℕ → List ℕ → List ℕ → List ℕ
     → Result ℕ RealiseRefusal → Type 0
 Realised A s f w f_after w_after (Ok m) =
-    Lengths s f w × OfElements A s
-    × (m ≡ (state_after A s (length s)).degree)
+    Lengths s f w × OfElements A s × (m ≡ (state_after A s (length s)).degree)
     × (f_after ≡ (state_after A s (length s)).pair.f.coeffs)
     × (w_after ≡ (state_after A s (length s)).pair.w.coeffs)
 Realised A s f w f_after w_after (Err WrongLength) =

@@ -20,8 +20,7 @@ four_code letters =
       letters = letters;
       rows = 2;
       locators = 0 ∷ 1 ∷ 2 ∷ 3 ∷ [];
-      multipliers = 1 ∷ 1 ∷ 1 ∷ 1
-          ∷ [];
+      multipliers = 1 ∷ 1 ∷ 1 ∷ 1 ∷ [];
     }
 
 -- two letters, or all four elements

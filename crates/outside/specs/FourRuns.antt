@@ -17,8 +17,8 @@ use Rattle.outside.specs.FourCards.{four_code, TwoOrFour}
 
 -- the calls were made one after another, as many as the journal has places for, and the law over
 -- runs holds of them
-pub record FourRun (letters : ℕ) (calls : List Call) (before after : List Event) (played : Played)
-    : Type 0 where
+pub record FourRun (letters : ℕ) (calls : List Call) (before after : List Event)
+    (played : Played) : Type 0 where
   pub alphabet : TwoOrFour letters
   pub events : played.events ≡ min (length calls) (length before)
   pub calls_made : map call_of (take played.events after) ≡ take played.events calls

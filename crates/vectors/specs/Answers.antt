@@ -50,7 +50,8 @@ ArithmeticText A numbers text =
 -- the inverses of 0 to q
 abbrev pub inverses_text : Meaning → List ℕ
 inverses_text meaning =
-    codes "inverses" ++ flat_map (λ a. inverse_text (meaning.inverse a))
+    codes "inverses"
+    ++ flat_map (λ a. inverse_text (meaning.inverse a))
     (range_with_len 0 (meaning.arithmetic.size + 1))
 
 -- for each element its products in one number

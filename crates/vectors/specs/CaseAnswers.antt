@@ -45,9 +45,11 @@ MadeAnswered meaning (Err cause) word numbers rest text = RefusedText (field_num
 -- the field is made by its kind; no kind has another number
 abbrev pub KindAnswered : ℕ → ℕ → List ℕ → List ℕ → List ℕ → List ℕ → Type 0
 KindAnswered kind origin word numbers rest text =
-    ((kind ≡ prime_kind) × ((made : Result PrimeField FieldCause) × PrimeFieldMade origin made
+    ((kind ≡ prime_kind)
+    × ((made : Result PrimeField FieldCause) × PrimeFieldMade origin made
     × MadeAnswered prime_meaning made word numbers rest text))
-    ⊎ ((kind ≡ binary_kind) × ((made : Result BinaryField FieldCause) × BinaryFieldMade origin made
+    ⊎ ((kind ≡ binary_kind)
+    × ((made : Result BinaryField FieldCause) × BinaryFieldMade origin made
     × MadeAnswered binary_meaning made word numbers rest text))
     ⊎ (((other : FieldKind) → field_kind_number other ≢ kind)
     × RefusedText (field_fault_number NoSuchField) text)

@@ -42,6 +42,5 @@ code_in letters rows text =
       letters = letters;
       rows = rows;
       locators = numbers_in (part 0 text);
-      multipliers =
-          numbers_in (part 1 text);
+      multipliers = numbers_in (part 1 text);
     }

@@ -50,8 +50,7 @@ LastReadText journal text =
 abbrev pub RunText : Arithmetic → Code → List Cell → List ℕ → Type 0
 RunText A code cells text =
     (journal : List Event) × (map call_of journal ≡ notes_and_read cells (length code.locators))
-    × RunLaw A code journal
-    × LastReadText journal text
+    × RunLaw A code journal × LastReadText journal text
 
 -- of a code, and cells: the code is checked and the cells are read, or the first rule that it
 -- breaks is told

@@ -10,8 +10,7 @@ six_code =
       letters = 7;
       rows = 4;
       locators = 0 ∷ 1 ∷ 2 ∷ 3 ∷ 4 ∷ 5 ∷ [];
-      multipliers = 1 ∷ 1 ∷ 1
-          ∷ 1 ∷ 1 ∷ 1 ∷ [];
+      multipliers = 1 ∷ 1 ∷ 1 ∷ 1 ∷ 1 ∷ 1 ∷ [];
     }
 
 abbrev pub six_cells : List Cell
@@ -22,8 +21,7 @@ book_code =
     record {
       letters = 11;
       rows = 1;
-      locators = 0 ∷ 1 ∷ 2 ∷ 3 ∷ 4 ∷ 5 ∷ 6 ∷ 7 ∷ 8 ∷ 9
-          ∷ [];
+      locators = 0 ∷ 1 ∷ 2 ∷ 3 ∷ 4 ∷ 5 ∷ 6 ∷ 7 ∷ 8 ∷ 9 ∷ [];
       multipliers = 10 ∷ 9 ∷ 8 ∷ 7 ∷ 6 ∷ 5 ∷ 4 ∷ 3 ∷ 2 ∷ 1 ∷ [];
     }
 

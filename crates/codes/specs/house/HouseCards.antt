@@ -35,8 +35,8 @@ pub record BinaryRow (row : HouseRow) : Type 0 where
 
 -- The card has the row's values and is checked. Its field works modulo the row's origin and is
 -- accepted.
-pub record PrimeCardOf {g : Ghosts PrimeField} (row : HouseRow) (card : Card PrimeField g)
-    : Type 0 where
+pub record PrimeCardOf {g : Ghosts PrimeField} (row : HouseRow)
+    (card : Card PrimeField g) : Type 0 where
   pub kind : field_kind_number row.kind ≡ prime_kind
   pub meaning : prime_meaning card.field ≡ with_inverses (modulo row.origin)
   pub accepted : prime_accepted card.field
@@ -45,8 +45,8 @@ pub record PrimeCardOf {g : Ghosts PrimeField} (row : HouseRow) (card : Card Pri
   pub checked : Checked (prime_meaning card.field) (card_code card)
 
 -- the same of the binary kind, where the origin is a polynomial and the field knows its degree
-pub record BinaryCardOf {g : Ghosts BinaryField} (row : HouseRow) (card : Card BinaryField g)
-    : Type 0 where
+pub record BinaryCardOf {g : Ghosts BinaryField} (row : HouseRow)
+    (card : Card BinaryField g) : Type 0 where
   pub kind : field_kind_number row.kind ≡ binary_kind
   pub origin : BinaryModulus row.origin card.field.degree
   pub meaning : binary_meaning card.field

@@ -19,8 +19,7 @@ engraved =
       letters = 256;
       cells = 64;
       rows = 16;
-      locators =
-          CountingFrom 0;
+      locators = CountingFrom 0;
       multipliers = Ones;
     }
 
@@ -32,8 +31,7 @@ inked =
       letters = 37;
       cells = 20;
       rows = 8;
-      locators = CountingFrom
-          0;
+      locators = CountingFrom 0;
       multipliers = Ones;
     }
 
@@ -45,8 +43,7 @@ punched =
       letters = 2;
       cells = 63;
       rows = 8;
-      locators = CountingFrom
-          1;
+      locators = CountingFrom 1;
       multipliers = AsLocators;
     }
 

@@ -48,16 +48,16 @@ EncodeRefused m code letters buffer NoLetter =
 pub record Encodes (m : Meaning) (code : Code) (letters word : List ℕ) : Type 0 where
   pub codeword : Codeword m.arithmetic code word
   pub begins : Begins letters word
-  pub only : (other : List ℕ) → Codeword m.arithmetic code other → Begins letters other
-      → other ≡ word
+  pub only : (other : List ℕ) → Codeword m.arithmetic code other
+      → Begins letters other → other ≡ word
 
 -- The buffer holds the only codeword that begins with the data, or a refusal is given in its case
 -- and the buffer is as it was.
-abbrev pub Encoded : Meaning → Code → List ℕ → List ℕ → List ℕ → Result (Unit {0}) EncodeRefusal
-    → Type 0
+abbrev pub Encoded : Meaning → Code → List ℕ → List ℕ → List ℕ
+    → Result (Unit {0}) EncodeRefusal → Type 0
 Encoded m code letters before after (Ok done) =
     (m.arithmetic.size ≤ code.letters) × EncodeLengths code letters before
-    × AllBelow code.letters letters
-    × (after ≡ encoding m code letters) × Encodes m code letters after
+    × AllBelow code.letters letters × (after ≡ encoding m code letters)
+    × Encodes m code letters after
 Encoded m code letters before after (Err refusal) =
     EncodeRefused m code letters before refusal × (after ≡ before)

@@ -95,19 +95,17 @@ Agrees cells word =
 -- letters
 abbrev pub FillsOnly : Meaning → Code → Type 0
 FillsOnly m code =
-    Checked m code → (cells : List Cell) → length cells ≡ length code.locators →
-    blanks cells ≤ code.rows →
-    (word : List ℕ) → Codeword m.arithmetic code word → Agrees cells word →
-    word ≡ filled m code cells (syndromes m.arithmetic code cells)
+    Checked m code → (cells : List Cell) → length cells ≡ length code.locators
+    → blanks cells ≤ code.rows → (word : List ℕ) → Codeword m.arithmetic code word
+    → Agrees cells word → word ≡ filled m code cells (syndromes m.arithmetic code cells)
 
 -- with as many blanks as rows and noted letters that are elements, all sums of the filled word are
 -- 0
 abbrev pub FillsToZero : Meaning → Code → Type 0
 FillsToZero m code =
-    Checked m code → (cells : List Cell) → length cells ≡ length code.locators →
-    blanks cells ≡ code.rows →
-    Lettered m.arithmetic.size cells → (k : ℕ) → k < code.rows →
-    row_sum m.arithmetic code (filled m code cells (syndromes m.arithmetic code cells)) k ≡ 0
+    Checked m code → (cells : List Cell) → length cells ≡ length code.locators
+    → blanks cells ≡ code.rows → Lettered m.arithmetic.size cells → (k : ℕ) → k < code.rows
+    → row_sum m.arithmetic code (filled m code cells (syndromes m.arithmetic code cells)) k ≡ 0
 
 -- the two laws of filling
 pub record FillingLaws (m : Meaning) (code : Code) : Type 0 where

@@ -38,12 +38,12 @@ pub record Near (A : Arithmetic) (code : Code) (cells : List Cell) (word : List 
 -- The near codeword is shown with its two counts, and it is the only one; or the read is refused,
 -- in this order: the buffer has another length than the word, more cells are blank than the reach,
 -- no codeword is near. A refused read leaves the buffer as it was.
-abbrev pub Reading : Arithmetic → Code → List Cell → List ℕ → List ℕ → Result Counts ReadRefusal
-    → Type 0
+abbrev pub Reading : Arithmetic → Code → List Cell → List ℕ → List ℕ
+    → Result Counts ReadRefusal → Type 0
 Reading A code cells before after (Ok counts) =
     (length before ≡ length code.locators) × Near A code cells after
-    × ((word : List ℕ) → Near A code cells word → word ≡ after)
-    × (counts.wrong ≡ wrong cells after) × (counts.blank ≡ blanks cells)
+    × ((word : List ℕ) → Near A code cells word → word ≡ after) × (counts.wrong ≡ wrong cells after)
+    × (counts.blank ≡ blanks cells)
 Reading A code cells before after (Err WrongLength) =
     (length before ≢ length code.locators) × (after ≡ before)
 Reading A code cells before after (Err TooBlank) =
@@ -56,9 +56,10 @@ Reading A code cells before after (Err Lost) =
 -- the buffer then holds
 abbrev pub OneReading : Type 0
 OneReading =
-    (m : Meaning) (code : Code) → Checked m code → (cells : List Cell) →
-    length cells ≡ length code.locators → Lettered code.letters cells → (before : List ℕ) →
-    (after : List ℕ) × (answer : Result Counts ReadRefusal)
+    (m : Meaning) (code : Code) → Checked m code
+    → (cells : List Cell) → length cells ≡ length code.locators → Lettered code.letters cells
+    → (before : List ℕ)
+    → (after : List ℕ) × (answer : Result Counts ReadRefusal)
     × Reading m.arithmetic code cells before after answer
     × ((other_after : List ℕ) (other : Result Counts ReadRefusal)
     → Reading m.arithmetic code cells before other_after other

@@ -13,5 +13,4 @@ unfoldable pub cell_of_mark : ℕ → Option Cell
 cell_of_mark c =
     cond (nat_le 48 c && nat_le c 57) (Some (noted_cell (c - 48)))
     (cond (nat_le 65 c && nat_le c 90) (Some (noted_cell (c - 65 + 10)))
-    (cond (c == 45) (Some (noted_cell 36))
-    (cond (c == 63) (Some blank_cell) None)))
+    (cond (c == 45) (Some (noted_cell 36)) (cond (c == 63) (Some blank_cell) None)))

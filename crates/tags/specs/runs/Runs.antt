@@ -85,8 +85,8 @@ pub record RunLaw (A : Arithmetic) (code : Code) (journal : List Event) : Type 0
   -- a read is granted exactly when its buffer has n numbers and some codeword is near the sheet
   pub granted : (i size : ℕ) (answer : Result Counts ReadRefusal) (buffer : List ℕ)
       → slice_get journal i ≡ Some (Read size answer buffer)
-      → Decides (is_ok answer) ((size ≡ width code)
-      × ((word : List ℕ) × Near A code (sheet_at code journal i) word))
+      → Decides (is_ok answer)
+      ((size ≡ width code) × ((word : List ℕ) × Near A code (sheet_at code journal i) word))
   -- a granted read shows the only codeword near the sheet, and its counts are those of the sheet
   -- and that word
   pub shown : (i size : ℕ) (counts : Counts) (buffer : List ℕ)
@@ -105,8 +105,8 @@ pub record RunLaw (A : Arithmetic) (code : Code) (journal : List Event) : Type 0
   pub stays : (i j : ℕ) (word : List ℕ) (first last : Event) → i < j
       → slice_get journal i ≡ Some first → Shows word first
       → ((k : ℕ) (event : Event) → i < k → k < j → slice_get journal k ≡ Some event
-      → Keeps code word (sheet_at code journal k) (call_of event))
-      → slice_get journal j ≡ Some last → call_of last ≡ call.Read (width code) → Shows word last
+      → Keeps code word (sheet_at code journal k) (call_of event)) → slice_get journal j ≡ Some last
+      → call_of last ≡ call.Read (width code) → Shows word last
 
 -- The worker, who has seen the earlier events, picks the calls of these events one after another,
 -- each in view of all events before it.

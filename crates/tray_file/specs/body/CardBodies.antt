@@ -32,7 +32,8 @@ use Rattle.codes.specs.declared.any_card.AnyCard.TheVariants.{Prime, Binary}
 -- multipliers.
 abbrev pub card_body : ℕ → ℕ → Code → List ℕ
 card_body kind origin code =
-    numbers (kind ∷ origin ∷ code.letters ∷ length code.locators ∷ code.rows
+    numbers
+    (kind ∷ origin ∷ code.letters ∷ length code.locators ∷ code.rows
     ∷ (code.locators ++ code.multipliers))
 
 -- a head stands first in the body, and its end is known
@@ -55,10 +56,12 @@ pub record Values (m : Meaning) (head : CardHead) (body : List ℕ) (code : Code
 -- numbers, then what they hold
 abbrev pub ValuesRefused : Meaning → CardHead → List ℕ → BodyFault → Type 0
 ValuesRefused m head body (BadNumber place) =
-    HeadFits m head × ListRefused (length (numbers (head_numbers head))) (head.cells + head.cells)
+    HeadFits m head
+    × ListRefused (length (numbers (head_numbers head))) (head.cells + head.cells)
     (after (head_numbers head) body) (BadNumber place)
 ValuesRefused m head body BadBody =
-    HeadFits m head × ListRefused (length (numbers (head_numbers head))) (head.cells + head.cells)
+    HeadFits m head
+    × ListRefused (length (numbers (head_numbers head))) (head.cells + head.cells)
     (after (head_numbers head) body) BadBody
 ValuesRefused m head body (Card BadShape) = HeadShape head → ⊥
 ValuesRefused m head body (Card NoAlphabet) =
@@ -107,13 +110,13 @@ pub record RestRefused (body : List ℕ) (fault : BodyFault) : Type 0 where
   pub refused : ValuesRefused meaning head body fault
 
 -- the card is checked, and the body is its own, byte for byte
-pub record PrimeCardIn (body : List ℕ) (card : cards.Card PrimeField prime_field.ghosts)
-    : Type 0 where
+pub record PrimeCardIn (body : List ℕ)
+    (card : cards.Card PrimeField prime_field.ghosts) : Type 0 where
   pub checked : Checked (prime_meaning card.field) (card_code card)
   pub written : body ≡ card_body prime_kind card.field.prime (card_code card)
 
-pub record BinaryCardIn (body : List ℕ) (card : cards.Card BinaryField binary_field.ghosts)
-    : Type 0 where
+pub record BinaryCardIn (body : List ℕ)
+    (card : cards.Card BinaryField binary_field.ghosts) : Type 0 where
   pub checked : Checked (binary_meaning card.field) (card_code card)
   pub written : body ≡ card_body binary_kind card.field.modulus (card_code card)
 

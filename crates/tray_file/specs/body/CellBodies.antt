@@ -61,8 +61,7 @@ CellsRefused n letters body (Field fault) = ⊥
 CellsRefused n letters body (Card cause) = ⊥
 
 abbrev pub CellNumbersRead : ℕ → ℕ → List ℕ → Result (List ℕ) BodyFault → Type 0
-CellNumbersRead n letters body (Ok list) =
-    Are list body × UpTo letters list × (length list ≡ n)
+CellNumbersRead n letters body (Ok list) = Are list body × UpTo letters list × (length list ≡ n)
 CellNumbersRead n letters body (Err fault) = CellsRefused n letters body fault
 
 -- Some cells have this body, or it is refused.
@@ -72,8 +71,8 @@ CellsChecked n letters body (Err fault) = CellsRefused n letters body fault
 
 -- The buffer holds the cells whose body this is under the card, or a refusal is given in its case
 -- and the buffer is as it was.
-abbrev pub CellsReadInto : Code → List ℕ → List Cell → List Cell → Result (Unit {0}) CellsRefusal
-    → Type 0
+abbrev pub CellsReadInto : Code → List ℕ → List Cell → List Cell
+    → Result (Unit {0}) CellsRefusal → Type 0
 CellsReadInto code body before after (Ok done) =
     (length before ≡ length code.locators) × CellsIn (length code.locators) code.letters body after
 CellsReadInto code body before after (Err WrongLength) =

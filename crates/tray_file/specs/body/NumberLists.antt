@@ -46,8 +46,7 @@ NumberMissing start wanted bytes (Tag cause) = ⊥
 -- So many numbers stand first, with the place after them, or one of them is missing.
 abbrev pub ListRead : List ℕ → ℕ → ℕ → Result NumberList BodyFault → Type 0
 ListRead bytes start count (Ok list) =
-    Begins list.values bytes
-    × (list.end ≡ start + length (numbers list.values))
+    Begins list.values bytes × (list.end ≡ start + length (numbers list.values))
     × (length list.values ≡ count)
 ListRead bytes start count (Err fault) = NumberMissing start count bytes fault
 

@@ -21,13 +21,12 @@ SameCard (Binary a) (Prime b) = ⊥
 abbrev pub CardReadsBack : Type 0
 CardReadsBack =
     (body : List ℕ) (card : AnyCard) (r : Result AnyCard BodyFault) → CardIn body card
-    → CardRead body r →
-    (found : AnyCard) × (r ≡ Ok found) × SameCard card found
+    → CardRead body r → (found : AnyCard) × (r ≡ Ok found) × SameCard card found
 
 -- What is read from the body of cells, into a buffer that is long enough, is those cells.
 abbrev pub CellsReadBack : Type 0
 CellsReadBack =
     (code : Code) (body : List ℕ) (cells before after : List Cell)
-    (r : Result (Unit {0}) CellsRefusal) →
-    CellsIn (length code.locators) code.letters body cells → length before ≡ length code.locators →
-    CellsReadInto code body before after r → (r ≡ Ok tt) × (after ≡ cells)
+    (r : Result (Unit {0}) CellsRefusal) → CellsIn (length code.locators) code.letters body cells
+    → length before ≡ length code.locators → CellsReadInto code body before after r
+    → (r ≡ Ok tt) × (after ≡ cells)

@@ -34,6 +34,6 @@ WholeListRead bytes start count (Err fault) = ListRefused start count bytes faul
 
 abbrev pub TwoListsRead : List ℕ → ℕ → ℕ → Result TwoLists BodyFault → Type 0
 TwoListsRead bytes start count (Ok lists) =
-    Are (lists.locators ++ lists.multipliers) bytes
-    × (length lists.locators ≡ count) × (length lists.multipliers ≡ count)
+    Are (lists.locators ++ lists.multipliers) bytes × (length lists.locators ≡ count)
+    × (length lists.multipliers ≡ count)
 TwoListsRead bytes start count (Err fault) = ListRefused start (count + count) bytes fault

@@ -21,8 +21,8 @@ FileFrom turn place bytes [] (Some fault) =
 FileFrom turn place bytes (e ∷ es) ending =
     EntryFirst e bytes
     × ((next : Turn) × Follows turn e next
-    × FileFrom next (place + length (entry_bytes e)) (drop (length (entry_bytes e)) bytes) es
-    ending)
+    × FileFrom next (place + length (entry_bytes e)) (drop (length (entry_bytes e)) bytes)
+    es ending)
 
 -- A file that is too long has that fault, at 0, and no record; any other has what its bytes have
 -- from the start on.

@@ -46,8 +46,8 @@ pub record AtFault (before : TrayReader) (fault : Fault) (after : TrayReader) : 
 -- the record at the place, in its turn; the reader stands right after it
 pub record AtRecord (before : TrayReader) (record_read : Record) (after : TrayReader) : Type 0 where
   pub no_fault : before.fault ≡ None
-  pub here : RecordIn before.turn before.place (left_of before) (entry_of record_read) after.place
-      after.turn
+  pub here : RecordIn before.turn before.place (left_of before) (entry_of record_read)
+      after.place after.turn
   pub still_none : after.fault ≡ None
   pub same_file : after.file.now ≡ before.file.now
 
@@ -68,8 +68,8 @@ Run before (r ∷ rs) ending last =
 abbrev pub EveryRun : Type 0
 EveryRun =
     (file : List ℕ) (reader : TrayReader) (rs : List Record) (ending : Option Fault)
-    (last : TrayReader) →
-    Opened file reader → Run reader rs ending last → File file (map entry_of rs) ending
+    (last : TrayReader) → Opened file reader → Run reader rs ending last
+    → File file (map entry_of rs) ending
 
 -- A record that stands where the reader is, in its turn, is answered as itself, and the reader then
 -- stands right after it.
@@ -86,6 +86,5 @@ pub record ComesBack (before : TrayReader) (e : Entry) (answer : Option (Result 
 abbrev pub RecordReadsBack : Type 0
 RecordReadsBack =
     (before : TrayReader) (e : Entry) (next : Turn) (answer : Option (Result Record Fault))
-    (after : TrayReader) →
-    before.fault ≡ None → EntryFirst e (left_of before) → Follows before.turn e next
-    → Next before answer after → ComesBack before e answer after
+    (after : TrayReader) → before.fault ≡ None → EntryFirst e (left_of before)
+    → Follows before.turn e next → Next before answer after → ComesBack before e answer after

@@ -68,7 +68,8 @@ pub record BodyWrong (turn : Turn) (place : ℕ) (bytes : List ℕ) (fault : Fau
   pub in_turn : task_for turn whole.kind ≡ Some task
   pub cause : BodyFault
   pub refused : BodyRefused task whole.body cause
-  pub is : fault ≡ body_fault place
+  pub is : fault
+      ≡ body_fault place
       (place + length (number_bytes (kind_number whole.kind))
       + length (number_bytes (length whole.body))) cause
 
@@ -78,8 +79,8 @@ RecordRefused turn place bytes fault =
     HeaderRefused turn place bytes fault ⊎ BodyWrong turn place bytes fault
 
 -- the record stands first, in its turn
-pub record RecordIn (turn : Turn) (place : ℕ) (bytes : List ℕ) (e : Entry) (end : ℕ) (next : Turn)
-    : Type 0 where
+pub record RecordIn (turn : Turn) (place : ℕ) (bytes : List ℕ) (e : Entry) (end : ℕ)
+    (next : Turn) : Type 0 where
   pub first : EntryFirst e bytes
   pub follows : Follows turn e next
   pub end_place : end ≡ place + length (entry_bytes e)

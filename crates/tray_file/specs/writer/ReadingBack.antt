@@ -31,9 +31,9 @@ use Rattle.tray_file.specs.writer.Writers.{tray_body}
 abbrev pub EntryComesBack : (TrayReader → Type 0) → Entry → Type 0
 EntryComesBack Ready e =
     (before : TrayReader) (rest : List ℕ) (answer : Option (Result Record Fault))
-    (after : TrayReader) →
-    Ready before → before.fault ≡ None → left_of before ≡ entry_bytes e ++ rest
-    → Next before answer after → ComesBack before e answer after
+    (after : TrayReader) → Ready before → before.fault ≡ None
+    → left_of before ≡ entry_bytes e ++ rest → Next before answer after
+    → ComesBack before e answer after
 
 -- A card comes back in every turn, and its body is read as the same card.
 pub record CardComesBack (card : AnyCard) : Type 0 where
@@ -50,9 +50,9 @@ UnderCard code reader =
 -- Cells come back under their card, and their body is read as the same cells.
 pub record CellsComeBack (code : Code) (cells : List Cell) : Type 0 where
   pub answered : EntryComesBack (UnderCard code) (entry Cells (cells_body cells))
-  pub read : (buffer after : List Cell) (r : Result (Unit {0}) CellsRefusal) →
-      length buffer ≡ length code.locators →
-      CellsReadInto code (cells_body cells) buffer after r → (r ≡ Ok tt) × (after ≡ cells)
+  pub read : (buffer after : List Cell) (r : Result (Unit {0}) CellsRefusal)
+      → length buffer ≡ length code.locators → CellsReadInto code (cells_body cells) buffer after r
+      → (r ≡ Ok tt) × (after ≡ cells)
 
 -- the reader has read a card or cells last
 abbrev pub AfterCardOrCells : TrayReader → Type 0
