@@ -115,7 +115,8 @@ Surjectivity m =
     (n : ℕ) (a y : ℕ → ℕ) (E : List ℕ) → Locators m.arithmetic n a → DistinctPlaces n E
     → Elements m.arithmetic (length E) y → (k : ℕ) → k < length E
     → sum m.arithmetic n
-    (λ j. cond (member j E) (times_power m.arithmetic (solution m a E y j) (a j) k) 0) ≡ y k
+    (λ j. cond (member j E) (times_power m.arithmetic (solution m a E y j) (a j) k) 0)
+    ≡ y k
 
 -- the sum Σ v_j h_j a_j^k of a word v
 abbrev pub word_sum : Arithmetic → ℕ → (ℕ → ℕ) → (ℕ → ℕ) → (ℕ → ℕ) → ℕ → ℕ
@@ -162,10 +163,9 @@ FillingOnly m =
 -- E are
 abbrev pub FillingMakes : Meaning → Type 0
 FillingMakes m =
-    (n : ℕ) (a h u : ℕ → ℕ) (E : List ℕ) → Locators m.arithmetic n a →
-    Multipliers m.arithmetic n h →
-    ((j : ℕ) → j < n → (Member j E → ⊥) → u j < m.arithmetic.size) → DistinctPlaces n E → (k : ℕ) →
-    k < length E →
-    word_sum m.arithmetic n a h
+    (n : ℕ) (a h u : ℕ → ℕ) (E : List ℕ) → Locators m.arithmetic n a → Multipliers m.arithmetic n h
+    → ((j : ℕ) → j < n → (Member j E → ⊥) → u j < m.arithmetic.size) → DistinctPlaces n E
+    → (k : ℕ) → k < length E
+    → word_sum m.arithmetic n a h
     (λ j. cond (member j E) (erased_letter m a h E (noted_sum m.arithmetic n a h E u) j) (u j))
     k ≡ 0

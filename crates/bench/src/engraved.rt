@@ -44,8 +44,9 @@ pub fn note_damaged(tag: &mut Tag<'_, BinaryField>, word: &[u32; CELLS], damage:
 
 // Whether the tag reads as the word, with the damage counted.
 pub fn reads(tag: &Tag<'_, BinaryField>, word: &[u32; CELLS], damage: Damage) -> bool
-    ensures { result ≡ true → ReadRight (binary_meaning tag.now.card.now.field).arithmetic
-        (tag_code tag.now) (tag_cells tag.now) word.now damage }
+    ensures { result ≡ true
+        → ReadRight (binary_meaning tag.now.card.now.field).arithmetic (tag_code tag.now)
+        (tag_cells tag.now) word.now damage }
 {
     let mut read = [0; CELLS];
     let Ok(counts) = tag.read(&mut read) else {

@@ -18,8 +18,7 @@ module _ (A : Arithmetic) where
         let long = length-range_with_len a n in omega (
           arith,
           get_or-range_with_len a n i 0 (omega arith),
-          get_or-range_with_len a n j 0
-              (omega arith),
+          get_or-range_with_len a n j 0 (omega arith),
         );
   }
 

@@ -32,8 +32,8 @@ impl<'a, F: Field> CodeOver<'a, F> {
     /// with 25 where the cells or the multipliers are not as many as the locators, or the buffer
     /// has another length. The buffer is then as it was.
     pub fn sums(self, cells: &[Cell], sums: &mut [u32]) -> Result<(), SumsRefusal>
-        ensures { Summed (F.Field.meaning self.entry.field.now).arithmetic (code_of self.entry.code)
-            cells.now sums.old sums.new result }
+        ensures { Summed (F.Field.meaning self.entry.field.now).arithmetic
+            (code_of self.entry.code) cells.now sums.old sums.new result }
     {
         let code = self.code;
         let n = code.locators.len();
@@ -56,8 +56,9 @@ impl<'a, F: Field> CodeOver<'a, F> {
 /// Adds x × locator^k to the sum of row k, for every row. The slice may have any length.
 pub fn add_powers<F: Field>(field: &F, x: u32, locator: u32, sums: &mut [u32])
     ensures { (k : ℕ) → k < length sums.new
-        → slice_index sums.new k ≡ (F.Field.meaning field.now).arithmetic.plus
-        (slice_index sums.old k) (times_power (F.Field.meaning field.now).arithmetic x locator k) }
+        → slice_index sums.new k
+        ≡ (F.Field.meaning field.now).arithmetic.plus (slice_index sums.old k)
+        (times_power (F.Field.meaning field.now).arithmetic x locator k) }
 {
     let mut term = x;
     for sum in sums.iter_mut() {

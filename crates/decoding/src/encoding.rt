@@ -25,8 +25,8 @@ pub fn encode<F: LetteredField>(
     data: &[u32],
     word: &mut [u32],
 ) -> Result<(), EncodeRefusal>
-    ensures { Encoded (F.Field.meaning card.now.field) (card_code card.now) «data».now word.old
-        word.new result }
+    ensures { Encoded (F.Field.meaning card.now.field) (card_code card.now)
+        «data».now word.old word.new result }
 {
     let code = card.code();
     if code.letters < card.field().size() {

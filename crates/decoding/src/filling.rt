@@ -57,7 +57,8 @@ pub(crate) fn write_letters<F: Field>(
 )
     requires lengths { FillLengths (code_of over.code) cells.now sums.now word.old }
     requires few { FewBlanks (code_of over.code) cells.now }
-    ensures { word.new ≡ filled (F.Field.meaning over.entry.field.now) (code_of over.entry.code)
+    ensures { word.new
+        ≡ filled (F.Field.meaning over.entry.field.now) (code_of over.entry.code)
         cells.now sums.now }
 {
     let code = over.code;

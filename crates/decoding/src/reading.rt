@@ -29,8 +29,8 @@ pub fn read_cells<F: LetteredField>(
 ) -> Result<Counts, ReadRefusal>
     requires long { length cells.now ≡ length (card_code card.now).locators }
     requires lettered { Lettered (card_code card.now).letters cells.now }
-    ensures { Reading (card_arithmetic card.now) (card_code card.now) cells.now word.old word.new
-        result }
+    ensures { Reading (card_arithmetic card.now) (card_code card.now)
+        cells.now word.old word.new result }
 {
     if word.len() != card.cells() {
         return Err(ReadRefusal::WrongLength);

@@ -133,8 +133,8 @@ impl State {
 fn apply<F: Field>(field: &F, f: &Poly, degree: usize, sequence: &[u32], k: usize) -> u32
     requires small { degree < coefficients }
     requires within { k + degree < length sequence.now }
-    ensures { result ≡ applied (F.Field.meaning field.now).arithmetic f.now.coeffs degree
-        sequence.now k }
+    ensures { result
+        ≡ applied (F.Field.meaning field.now).arithmetic f.now.coeffs degree sequence.now k }
 {
     let mut sum = 0;
     for (coefficient, x) in f.coeffs[..=degree].iter().zip(&sequence[k..]) {
@@ -154,8 +154,8 @@ pub fn realise<F: Field>(
     f: &mut [u32],
     w: &mut [u32],
 ) -> Result<usize, RealiseRefusal>
-    ensures pinned { Realised (F.Field.meaning field.now).arithmetic sequence.now f.old w.old f.new
-        w.new result }
+    ensures pinned { Realised (F.Field.meaning field.now).arithmetic sequence.now
+        f.old w.old f.new w.new result }
     ensures minimal { F.Field.accepted field.now
         → MinimalAnswer (F.Field.meaning field.now).arithmetic sequence.now f.new w.new result }
 {

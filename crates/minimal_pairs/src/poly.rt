@@ -49,8 +49,8 @@ pub struct Combination {
 impl Combination {
     pub fn combine<F: Field>(&self, field: &F, p: &mut Poly, q: &Poly)
         requires { UpTo self.now.degree p.old }
-        ensures { p.new ≡ combined (F.Field.meaning field.now).arithmetic self.now.a p.old
-            self.now.b self.now.d q.now self.now.degree }
+        ensures { p.new ≡ combined (F.Field.meaning field.now).arithmetic
+            self.now.a p.old self.now.b self.now.d q.now self.now.degree }
     {
         // By place: `array::from_fn` goes through all 65, and those above the degree hold zeros and
         // are not to be touched; a coefficient reads both polynomials, so the places of one cannot
@@ -63,8 +63,8 @@ impl Combination {
     // The coefficient of X^j.
     fn coefficient<F: Field>(&self, field: &F, p: &Poly, q: &Poly, j: usize) -> u32
         requires { j < coefficients }
-        ensures { result ≡ coefficient (F.Field.meaning field.now).arithmetic self.now.a p.now
-            self.now.b self.now.d q.now j }
+        ensures { result ≡ coefficient (F.Field.meaning field.now).arithmetic
+            self.now.a p.now self.now.b self.now.d q.now j }
     {
         let scaled = field.mul(self.a, p.coeffs[j]);
         if j < self.d {

@@ -24,8 +24,7 @@ impl<const N: usize> Model for ShortList<N> {
 
     ghost inverse = { λ numbers. record {
       len = length numbers;
-      places = numbers
-          ++ replicate (N - length numbers) 0;
+      places = numbers ++ replicate (N - length numbers) 0;
     } };
 }
 

@@ -57,8 +57,8 @@ impl<'a, F: LetteredField> Tag<'a, F> {
     pub fn note(&mut self, cell: usize, letter: u32) -> Result<(), NoteRefusal>
         ensures answer { refused note_number result
             ≡ refusal_of_note (tag_code self.old) cell letter }
-        ensures cells { tag_cells self.new ≡ after_note (tag_code self.old) cell letter
-            (tag_cells self.old) }
+        ensures cells { tag_cells self.new
+            ≡ after_note (tag_code self.old) cell letter (tag_cells self.old) }
         ensures card { self.new.card.now ≡ self.old.card.now }
     {
         let place = self.place_of(cell).ok_or(NoteRefusal::NoSuchCell)?;
@@ -73,8 +73,8 @@ impl<'a, F: LetteredField> Tag<'a, F> {
     /// there is no such cell. The tag is then as it was.
     pub fn wipe(&mut self, cell: usize) -> Result<(), WipeRefusal>
         ensures answer { refused wipe_number result ≡ refusal_of_wipe (tag_code self.old) cell }
-        ensures cells { tag_cells self.new ≡ after_wipe (tag_code self.old) cell
-            (tag_cells self.old) }
+        ensures cells { tag_cells self.new
+            ≡ after_wipe (tag_code self.old) cell (tag_cells self.old) }
         ensures card { self.new.card.now ≡ self.old.card.now }
     {
         let place = self.place_of(cell).ok_or(WipeRefusal::NoSuchCell)?;
@@ -86,12 +86,12 @@ impl<'a, F: LetteredField> Tag<'a, F> {
     /// line has another length, then 28 where the alphabet has more than 37 letters or a mark is no
     /// letter of it and no '?'. The tag is then as it was.
     pub fn line(&mut self, line: &str) -> Result<(), LineRefusal>
-        ensures marks { LineRead (tag_code self.old).letters (chars line.now) (tag_cells self.old)
-            (tag_cells self.new) result }
+        ensures marks { LineRead (tag_code self.old).letters (chars line.now)
+            (tag_cells self.old) (tag_cells self.new) result }
         ensures answer { refused line_number result
             ≡ refusal_of_line (tag_code self.old) (chars line.now) }
-        ensures cells { tag_cells self.new ≡ after_line (tag_code self.old) (chars line.now)
-            (tag_cells self.old) }
+        ensures cells { tag_cells self.new
+            ≡ after_line (tag_code self.old) (chars line.now) (tag_cells self.old) }
         ensures card { self.new.card.now ≡ self.old.card.now }
     {
         let letters = self.card.code().letters;

@@ -29,7 +29,8 @@ fn read_line(place: usize, word: &WordRead) -> ReadLine<'_>
 /// Writes the text of the file, which has only one: the line of each of its records, up to its end
 /// or the fault that ends it. An error is one of a write; what was written before it is left open.
 pub fn write_lines<W: Write>(out: &mut W, file: &[u8]) -> io::Result<()>
-    ensures text { OnOk result ((text : List ℕ) × FileText file.now text
+    ensures text { OnOk result
+        ((text : List ℕ) × FileText file.now text
         × Appends (W.contents out.old) (W.contents out.new) text) }
     ensures one { OneText }
 {

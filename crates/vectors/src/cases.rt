@@ -131,8 +131,8 @@ fn field_case<F: LetteredField + Drop>(case: Case<'_>, field: F) -> anyhow::Resu
 }
 
 fn taken<F: LetteredField>(case: Case<'_>, field: &F) -> anyhow::Result<String>
-    ensures { IfOk result (λ text. string_bytes text
-        ≡ taken_text (F.Field.meaning field.now).arithmetic) }
+    ensures { IfOk result
+        (λ text. string_bytes text ≡ taken_text (F.Field.meaning field.now).arithmetic) }
 {
     let size = field.size();
     Ok(format!(in case.heap; "taken, {size} elements")?)
@@ -168,8 +168,8 @@ fn inverses<F: LetteredField>(case: Case<'_>, field: &F) -> anyhow::Result<Strin
 
 // For each element a one number, made of its products with every element.
 fn products<F: LetteredField>(case: Case<'_>, field: &F) -> anyhow::Result<String>
-    ensures { IfOk result (λ text. string_bytes text
-        ≡ products_text (F.Field.meaning field.now).arithmetic) }
+    ensures { IfOk result
+        (λ text. string_bytes text ≡ products_text (F.Field.meaning field.now).arithmetic) }
 {
     let mut out = format!(in case.heap; "products")?;
     for a in 0..field.size() {
@@ -181,8 +181,8 @@ fn products<F: LetteredField>(case: Case<'_>, field: &F) -> anyhow::Result<Strin
 
 // The alphabet sizes from 0 to one above q that are admitted.
 fn admits<F: LetteredField>(case: Case<'_>, field: &F) -> anyhow::Result<String>
-    ensures { IfOk result (λ text. AdmitsText (F.Field.meaning field.now).arithmetic
-        (string_bytes text)) }
+    ensures { IfOk result
+        (λ text. AdmitsText (F.Field.meaning field.now).arithmetic (string_bytes text)) }
 {
     let mut out = format!(in case.heap; "admits")?;
     for letters in 0..=field.size().saturating_add(1) {

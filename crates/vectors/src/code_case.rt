@@ -29,8 +29,8 @@ impl<'a> CodeCase<'a> {
         ensures rows { IfOk result (λ case. case.rows ≡ rows) }
         ensures locators { IfOk result
             (λ case. case.locators.items ≡ numbers_in (part 0 text.now)) }
-        ensures multipliers { IfOk result (λ case. case.multipliers.items
-            ≡ numbers_in (part 1 text.now)) }
+        ensures multipliers { IfOk result
+            (λ case. case.multipliers.items ≡ numbers_in (part 1 text.now)) }
         ensures last { IfOk result (λ case. case.last.now ≡ part 2 text.now) }
     {
         let (locators, rest) = cut(text);

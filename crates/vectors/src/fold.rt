@@ -6,7 +6,8 @@ use fields::Field;
 
 // 1 at first, and for each element b in turn the number so far × 257 + a × b, modulo 65521.
 pub fn folded_products<F: Field>(field: &F, a: u32) -> u64
-    ensures { result ≡ folded (F.Field.meaning field.now).arithmetic a
+    ensures { result
+        ≡ folded (F.Field.meaning field.now).arithmetic a
         (F.Field.meaning field.now).arithmetic.size }
 {
     let mut so_far = 1;

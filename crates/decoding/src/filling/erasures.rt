@@ -35,8 +35,9 @@ struct Cofactor {
 pub(crate) fn blank_annihilator<F: Field>(field: &F, locators: &[u32], cells: &[Cell]) -> Polynomial
     requires as_long { length locators.now ≡ length cells.now }
     requires few { blanks cells.now ≤ largest_rows }
-    ensures product { coefficients_of result ≡ annihilator_below
-        (F.Field.meaning field.now).arithmetic locators.now cells.now (length cells.now) }
+    ensures product { coefficients_of result
+        ≡ annihilator_below (F.Field.meaning field.now).arithmetic locators.now cells.now
+        (length cells.now) }
     ensures power { degree_of result ≡ blanks cells.now }
 {
     let mut product = Polynomial::one();
@@ -52,10 +53,11 @@ impl<'a, F: Field> Erasures<'a, F> {
     // The letter of a cell with this locator and this multiplier: the noted one, or at a blank the
     // one that the sums give.
     pub fn letter_of(&self, cell: Cell, locator: u32, multiplier: u32) -> u32
-        ensures { result ≡ unwrap_or cell.letter
+        ensures { result
+            ≡ unwrap_or cell.letter
             (letter_from (F.Field.meaning self.now.field.now)
-            (coefficients_of self.now.annihilator.now) (number_at self.now.sums.now) locator
-            multiplier) }
+            (coefficients_of self.now.annihilator.now) (number_at self.now.sums.now)
+            locator multiplier) }
     {
         match cell.letter {
             Some(letter) => letter,
@@ -65,9 +67,10 @@ impl<'a, F: Field> Erasures<'a, F> {
 
     // The letter at an erased place with this locator and this multiplier.
     fn letter_at(&self, locator: u32, multiplier: u32) -> u32
-        ensures { result ≡ letter_from (F.Field.meaning self.now.field.now)
-            (coefficients_of self.now.annihilator.now) (number_at self.now.sums.now) locator
-            multiplier }
+        ensures { result
+            ≡ letter_from (F.Field.meaning self.now.field.now)
+            (coefficients_of self.now.annihilator.now) (number_at self.now.sums.now)
+            locator multiplier }
     {
         let cofactor = self.divide_linear(locator);
         let numerator = self.field.sub(0, cofactor.action);
@@ -79,10 +82,12 @@ impl<'a, F: Field> Erasures<'a, F> {
     // Divides by X − point from the highest coefficient down (synthetic division); no coefficient
     // of the quotient is kept.
     fn divide_linear(&self, point: u32) -> Cofactor
-        ensures action { result.action ≡ act (F.Field.meaning self.now.field.now).arithmetic
+        ensures action { result.action
+            ≡ act (F.Field.meaning self.now.field.now).arithmetic
             (quotient_linear (F.Field.meaning self.now.field.now).arithmetic point
             (coefficients_of self.now.annihilator.now)) (number_at self.now.sums.now) 0 }
-        ensures value { result.value ≡ evaluate (F.Field.meaning self.now.field.now).arithmetic
+        ensures value { result.value
+            ≡ evaluate (F.Field.meaning self.now.field.now).arithmetic
             (quotient_linear (F.Field.meaning self.now.field.now).arithmetic point
             (coefficients_of self.now.annihilator.now)) point }
     {

@@ -45,8 +45,8 @@ impl Polynomial {
     // The product with X − point.
     pub fn times_linear<F: Field>(self, field: &F, point: u32) -> Polynomial
         requires { degree_of self < largest_rows }
-        ensures product { coefficients_of result ≡ linear_product
-            (F.Field.meaning field.now).arithmetic point (coefficients_of self) }
+        ensures product { coefficients_of result
+            ≡ linear_product (F.Field.meaning field.now).arithmetic point (coefficients_of self) }
         ensures higher { degree_of result ≡ suc (degree_of self) }
     {
         let mut coefficients = ShortList::new();

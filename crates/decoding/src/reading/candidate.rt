@@ -25,10 +25,10 @@ pub(crate) fn fill_candidate<F: LetteredField>(
     requires room { length word.old ≡ length (card_code card.now).locators }
     requires summed { sums.old
         ≡ syndromes (card_arithmetic card.now) (card_code card.now) cells.now }
-    ensures word { word.new ≡ filled (F.Field.meaning card.now.field) (card_code card.now) cells.now
-        sums.old }
-    ensures sums { sums.new ≡ syndromes (card_arithmetic card.now) (card_code card.now)
-        (noted word.new) }
+    ensures word { word.new
+        ≡ filled (F.Field.meaning card.now.field) (card_code card.now) cells.now sums.old }
+    ensures sums { sums.new
+        ≡ syndromes (card_arithmetic card.now) (card_code card.now) (noted word.new) }
 {
     write_letters(card.over(), cells, sums, word);
     add_filled(card, cells, word, sums);
@@ -59,8 +59,8 @@ impl<'a, F: LetteredField> FoundCells<'a, F> {
     // How many cells are wrong, if the word passes. `sums` has the sums of the word.
     pub fn accept(&self, word: &[u32], sums: &[u32]) -> Option<usize>
         requires { length word.now ≡ length self.now.cells.now }
-        ensures { Accepted (card_code self.now.card.now) self.now.cells.now word.now sums.now
-            result }
+        ensures { Accepted (card_code self.now.card.now)
+            self.now.cells.now word.now sums.now result }
     {
         let code = self.card.code();
         if !all_below(word, code.letters) || !all_zero(sums) {

@@ -18,12 +18,13 @@ impl<'a, F: LetteredField> FoundCells<'a, F> {
     // Writes the error locator into `locator`, as `realise` writes it, and answers its degree.
     // `sums` has the syndromes of the cells.
     pub fn error_locator(&self, sums: &[u32], locator: &mut [u32]) -> usize
-        requires summed { sums.now ≡ syndromes (card_arithmetic self.now.card.now)
-            (card_code self.now.card.now) self.now.cells.now }
+        requires summed { sums.now
+            ≡ syndromes (card_arithmetic self.now.card.now) (card_code self.now.card.now)
+            self.now.cells.now }
         requires room { length locator.old ≡ coefficients }
         ensures short { result < coefficients }
-        ensures locates { Locates (card_arithmetic self.now.card.now) (card_code self.now.card.now)
-            self.now.cells.now result locator.new }
+        ensures locates { Locates (card_arithmetic self.now.card.now)
+            (card_code self.now.card.now) self.now.cells.now result locator.new }
     {
         let field = self.card.field();
         let code = self.card.code();
@@ -55,7 +56,8 @@ fn modified_sums<F: Field>(field: &F, product: &Polynomial, sums: &[u32], modifi
 // definition does for every field; the sum of `minimal_pairs` adds from the lowest up.
 fn apply<F: Field>(field: &F, product: &Polynomial, sums: &[u32]) -> u32
     requires { degree_of product.now < length sums.now }
-    ensures { result ≡ act (F.Field.meaning field.now).arithmetic (coefficients_of product.now)
+    ensures { result
+        ≡ act (F.Field.meaning field.now).arithmetic (coefficients_of product.now)
         (number_at sums.now) 0 }
 {
     let coefficients = product.coefficients();

@@ -22,8 +22,8 @@ pub(crate) fn erase_roots<F: LetteredField>(
     requires long { length cells.old ≡ length (card_code card.now).locators }
     requires summed { sums.old
         ≡ syndromes (card_arithmetic card.now) (card_code card.now) cells.old }
-    ensures cells { cells.new ≡ erased (card_arithmetic card.now) polynomial.now
-        (card_code card.now).locators cells.old }
+    ensures cells { cells.new
+        ≡ erased (card_arithmetic card.now) polynomial.now (card_code card.now).locators cells.old }
     ensures sums { sums.new ≡ syndromes (card_arithmetic card.now) (card_code card.now) cells.new }
 {
     let field = card.field();

@@ -52,8 +52,8 @@ pub fn work_tag<'a, F: LetteredField, W: Worker<'a>>(
 
 fn make_call<'a, F: LetteredField>(tag: &mut Tag<'_, F>, call: Call<'a>) -> Event<'a>
     ensures same { call_of result ≡ call.entry }
-    ensures answer { Answered (tag_arithmetic tag.old) (tag_code tag.old) (tag_cells tag.old)
-        result }
+    ensures answer { Answered (tag_arithmetic tag.old) (tag_code tag.old)
+        (tag_cells tag.old) result }
     ensures cells { tag_cells tag.new
         ≡ after_call (tag_code tag.old) (tag_cells tag.old) call.entry }
     ensures card { tag.new.card.now ≡ tag.old.card.now }
@@ -88,8 +88,8 @@ fn read_fresh<F: LetteredField>(
     tag: &Tag<'_, F>,
     length: usize,
 ) -> (Result<Counts, ReadRefusal>, [u32; BUFFER])
-    ensures { ReadFresh (tag_arithmetic tag.now) (tag_code tag.now) (tag_cells tag.now) length
-        result.0 result.1 }
+    ensures { ReadFresh (tag_arithmetic tag.now) (tag_code tag.now) (tag_cells tag.now)
+        length result.0 result.1 }
 {
     let mut buffer = [UNTOUCHED; BUFFER];
     let end = length.min(BUFFER);

@@ -32,8 +32,7 @@ use Rattle.codes.specs.declared.any_card.AnyCard.TheVariants.{Prime, Binary}
 -- multipliers.
 abbrev pub card_body : ℕ → ℕ → Code → List ℕ
 card_body kind origin code =
-    numbers
-    (kind ∷ origin ∷ code.letters ∷ length code.locators ∷ code.rows
+    numbers (kind ∷ origin ∷ code.letters ∷ length code.locators ∷ code.rows
     ∷ (code.locators ++ code.multipliers))
 
 -- a head stands first in the body, and its end is known

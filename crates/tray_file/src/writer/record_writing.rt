@@ -26,8 +26,8 @@ pub(crate) fn write_numbers(
     buffer: &mut [u8],
 ) -> Result<usize, WriteRefusal>
     requires { NumberRecord body }
-    ensures { RecordWritten (kind_number kind) (body_numbers body.entry) buffer.old buffer.new
-        result }
+    ensures { RecordWritten (kind_number kind) (body_numbers body.entry)
+        buffer.old buffer.new result }
 {
     let size = list_length(body.head) + list_length(body.first) + list_length(body.second);
     let mut page = Page { buffer, place: 0 };
