@@ -3,8 +3,8 @@ use Rattle.std.specs.Prelude.{◌≡◌, ℕ, ◌<◌, ◌≤◌, ◌⊎◌, Som
 use Rattle.algebra.specs.Limits.{largest_size}
 use Rattle.algebra.specs.Meaning.{Arithmetic, Meaning}
 
--- The elements are the numbers below the size; 0 and 1 are among them.
--- Every answer is an element, and it is 0 where an argument is no element.
+-- The elements are the numbers below the size; 0 and 1 are among them. Every
+-- answer is an element, and it is 0 where an argument is no element.
 pub record Total (A : Arithmetic) : Type 0 where
   pub smallest : 2 ≤ A.size
   pub plus_element : (a b : ℕ) → A.plus a b < A.size

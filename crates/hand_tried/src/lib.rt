@@ -3,7 +3,8 @@
 
 ghost use Rattle.hand_tried.specs.HandTried.{HandTried};
 
-// Asks for the proofs; it does nothing.
+/// What the definitions give in the cases that were tried by hand. The call does nothing: its
+/// clause is the cases.
 pub fn hand_tried()
     ensures { HandTried }
 {}

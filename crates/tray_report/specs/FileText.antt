@@ -39,8 +39,8 @@ RecordsText card counts place [] (Some fault) text =
     text ≡ step_text (step.Fault (record { fault = fault }))
 RecordsText card counts place (e ∷ es) ending text =
     RecordText e.kind place e.body card counts
-    (λ last so_far later. RecordsText last so_far (place + length (entry_bytes e)) es ending later)
-    text
+    (λ last so_far later.
+    RecordsText last so_far (place + length (entry_bytes e)) es ending later) text
 
 -- The text of a file: the lines of the records that it has, up to its end or the fault that ends
 -- it.

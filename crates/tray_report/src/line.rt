@@ -1,4 +1,4 @@
-// The lines that the program prints.
+// The lines of a report: what is said of each cells record, of the end and of a fault.
 ghost use Rattle.std.specs.Prelude.{Some};
 ghost use Rattle.tray_report.specs.ReportLines.{lost_text, end_text, fault_text, read_text};
 

@@ -2,8 +2,8 @@
 ghost use Rattle.std.specs.Prelude.{◌≡◌, ◌≤◌, length};
 ghost use Rattle.codes.specs.Cards.{card_arithmetic, card_code};
 ghost use Rattle.codes.specs.Cells.{blanks, noted};
-ghost use Rattle.decoding.specs.filling.Fillings.{Agrees, filled};
 ghost use Rattle.codes.specs.Sums.{syndromes};
+ghost use Rattle.decoding.specs.filling.Fillings.{Agrees, filled};
 ghost use Rattle.decoding.specs.reading.Reading.{differs, wrong};
 ghost use Rattle.decoding.specs.reading.Decoding.{Accepted};
 

@@ -3,9 +3,9 @@ ghost use Rattle.std.specs.Prelude.{◌≡◌, ℕ, ◌+◌, ◌<◌, ◌≤◌,
 ghost use Rattle.algebra.specs.Polynomial.{act};
 ghost use Rattle.algebra.specs.Limits.{coefficients};
 ghost use Rattle.codes.specs.Cards.{card_arithmetic, card_code};
+ghost use Rattle.codes.specs.Sums.{syndromes};
 ghost use Rattle.decoding.specs.filling.Fillings.{number_at};
 ghost use Rattle.decoding.specs.filling.Polynomials.{coefficients_of, degree_of};
-ghost use Rattle.codes.specs.Sums.{syndromes};
 ghost use Rattle.decoding.specs.reading.Decoding.{Locates};
 
 use crate::filling::{Polynomial, blank_annihilator};

@@ -1,6 +1,6 @@
 // What a line of marks is on the inked card.
-ghost use Rattle.std.specs.Str.{chars};
 ghost use Rattle.std.specs.Prelude.{◌≡◌, Some};
+ghost use Rattle.std.specs.Str.{chars};
 ghost use Rattle.codes.specs.Cells.{noted};
 ghost use Rattle.demo.specs.inked.Inspected.{Inspected, InspectedCells};
 ghost use Rattle.demo.specs.inked.Texts.{inspection_text};

@@ -1,6 +1,6 @@
 // Monday: the data letters are encoded, and all cells are inked.
-ghost use Rattle.std.specs.Str.{chars};
 ghost use Rattle.std.specs.Prelude.{◌≡◌};
+ghost use Rattle.std.specs.Str.{chars};
 ghost use Rattle.fields.specs.Elements.{AllBelow};
 ghost use Rattle.decoding.specs.encoding.Encodings.{Encodes};
 ghost use Rattle.demo.specs.inked.InkedTag.{inked_code, inked_meaning, inked_letters};

@@ -1,4 +1,5 @@
 // The longest file; specs/reader/Files.antt has the same for the contracts, which hold the two
 // together.
+
 /// The most bytes that a file may have.
 pub const LONGEST_FILE: usize = 60_000;
