@@ -30,4 +30,5 @@ LineAnswered argument text =
     (letters : ℕ) × (count : ℕ) × (cells : List Cell) × (answer : Result (Unit {0}) LineRefusal)
     × (numbers_in (before_first semicolon argument) ≡ letters ∷ count ∷ [])
     × LineRead letters (chars (after_first semicolon argument)) (replicate count blank_cell)
-    cells answer × LineText answer cells text
+    cells answer
+    × LineText answer cells text

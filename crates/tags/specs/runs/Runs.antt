@@ -105,8 +105,8 @@ pub record RunLaw (A : Arithmetic) (code : Code) (journal : List Event) : Type 0
   pub stays : (i j : ℕ) (word : List ℕ) (first last : Event) → i < j
       → slice_get journal i ≡ Some first → Shows word first
       → ((k : ℕ) (event : Event) → i < k → k < j → slice_get journal k ≡ Some event
-      → Keeps code word (sheet_at code journal k) (call_of event)) → slice_get journal j ≡ Some last
-      → call_of last ≡ call.Read (width code) → Shows word last
+      → Keeps code word (sheet_at code journal k) (call_of event))
+      → slice_get journal j ≡ Some last → call_of last ≡ call.Read (width code) → Shows word last
 
 -- The worker, who has seen the earlier events, picks the calls of these events one after another,
 -- each in view of all events before it.

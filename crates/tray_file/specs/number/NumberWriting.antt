@@ -36,6 +36,5 @@ NumberWritten value start before after (Err cause) =
 abbrev pub ReadsBack : Type 0
 ReadsBack =
     (value start : ℕ) (rest : List ℕ) (answer : Result NumberRead NumberCause)
-    → value ≤ largest_number →
-    NumberAnswered (number_bytes value ++ rest) start answer →
-    answer ≡ Ok (record { value = value; end = start + length (number_bytes value) })
+    → value ≤ largest_number → NumberAnswered (number_bytes value ++ rest) start answer
+    → answer ≡ Ok (record { value = value; end = start + length (number_bytes value) })
