@@ -1,5 +1,5 @@
 // Friday, before a coin is lifted: the line that was found is noted, and the tag is read.
-ghost use Rattle.std.specs.Prelude.{◌≡◌, ℕ, ◌≤◌, length, take};
+ghost use Rattle.std.specs.Prelude.{◌≡◌, ℕ, length, take};
 ghost use Rattle.std.specs.Str.{chars};
 ghost use Rattle.tags.specs.runs.Calls.{call_of};
 ghost use Rattle.tags.specs.declared.runs.call.Call.TheVariants.{Line as line_call, Read as read_call};

@@ -1,5 +1,4 @@
 // Reads a card from a record's body.
-ghost use Rattle.std.specs.Prelude.{◌≡◌, length};
 ghost use Rattle.tray_file.specs.body.CardBodies.{HeadStands, CardOver, CardRead};
 ghost use Rattle.tray_file.specs.body.SameCards.{CardReadsBack};
 

@@ -1,5 +1,5 @@
 // The five numbers that a card's body begins with.
-ghost use Rattle.std.specs.Prelude.{◌≡◌, ℕ, Decides};
+ghost use Rattle.std.specs.Prelude.{Decides};
 ghost use Rattle.tray_file.specs.body.CardHeads.{HeadRead, HeadShape};
 
 use crate::body::number_list::ListAt;

@@ -1,5 +1,5 @@
 // Reads cells from a record's body: 0 for a blank, and letter + 1 otherwise.
-ghost use Rattle.std.specs.Prelude.{◌≡◌, ◌≤◌, length, take, Decides};
+ghost use Rattle.std.specs.Prelude.{◌≡◌, length, Decides};
 ghost use Rattle.codes.specs.Cards.{card_code};
 ghost use Rattle.tray_file.specs.body.CellBodies.{UpTo, cell_of_number, cells_of, CellNumbersRead, CellsChecked, CellsReadInto};
 ghost use Rattle.tray_file.specs.body.SameCards.{CellsReadBack};

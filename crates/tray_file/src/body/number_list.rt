@@ -1,5 +1,5 @@
 // Reads a list of numbers that stand one after another.
-ghost use Rattle.std.specs.Prelude.{◌≡◌, ◌≤◌, drop};
+ghost use Rattle.std.specs.Prelude.{◌≤◌, drop};
 ghost use Rattle.algebra.specs.Limits.{largest_cells};
 ghost use Rattle.tray_file.specs.body.NumberLists.{NumberIn, ListRead};
 

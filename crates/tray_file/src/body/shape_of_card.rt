@@ -1,5 +1,4 @@
 // The shape of a card that was read.
-ghost use Rattle.std.specs.Prelude.{◌≡◌, length};
 ghost use Rattle.codes.specs.AnyCards.{any_code};
 ghost use Rattle.codes.specs.Cards.{card_code};
 ghost use Rattle.tray_file.specs.body.CardShapes.{ShapeOf};

@@ -1,5 +1,5 @@
 // Lists of numbers that must end where the body ends.
-ghost use Rattle.std.specs.Prelude.{◌≡◌, drop};
+ghost use Rattle.std.specs.Prelude.{drop};
 ghost use Rattle.tray_file.specs.body.WholeLists.{WholeListRead, TwoListsRead};
 
 use crate::body::number_list::ListAt;

@@ -1,5 +1,5 @@
 // A record's kind and length, and where its body stands.
-ghost use Rattle.std.specs.Prelude.{◌≡◌, length, drop};
+ghost use Rattle.std.specs.Prelude.{length, drop};
 ghost use Rattle.tray_file.specs.reader.Headers.{NumberAt, HeaderRead};
 
 use crate::fault::{Fault, FileCause, file_fault, placed_number};
