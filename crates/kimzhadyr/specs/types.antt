@@ -47,6 +47,7 @@ pub use Rattle.tray_file.specs.declared.reader.kind.NoSuchKind
 pub use Rattle.tray_file.specs.declared.reader.record.Record
 pub use Rattle.tray_file.specs.declared.reader.TrayReader
 pub use Rattle.tray_file.specs.declared.writer.write_refusal.WriteRefusal
+pub use Rattle.shortlist.specs.declared.short_list.ShortList
 pub use Rattle.tray_report.specs.declared.file_lines.FileLines
 pub use Rattle.tray_report.specs.declared.file_lines.Step
 pub use Rattle.tray_report.specs.declared.line.EndLine

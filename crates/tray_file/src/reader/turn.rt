@@ -17,7 +17,7 @@ pub(crate) enum Turn {
 
 // What a record in turn must be: a card, cells under the card, or a note.
 #[derive(Clone, Copy)]
-pub(crate) enum Task {
+pub enum Task {
     Card,
     Cells(CardShape),
     Note(CardShape),
