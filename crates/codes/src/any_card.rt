@@ -10,7 +10,9 @@ use fields::{BinaryField, PrimeField};
 /// A checked card, over a field of any kind that the library makes.
 #[derive(Drop)]
 pub enum AnyCard {
+    /// Over a field of the prime kind.
     Prime(Card<PrimeField>),
+    /// Over a field of the binary kind.
     Binary(Card<BinaryField>),
 }
 

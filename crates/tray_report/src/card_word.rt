@@ -12,8 +12,10 @@ use tray_file::{BodyFault, read_card};
 /// The card's body is refused, or the word is not read under the card.
 #[derive(Clone, Copy, PartialEq, Eq, Debug, Error)]
 pub enum UnderRefusal {
+    /// The card's body is refused.
     #[error(transparent)]
     Card(BodyFault),
+    /// The word is not read under the card.
     #[error(transparent)]
     Word(WordRefusal),
 }

@@ -16,8 +16,10 @@ use tray_file::{BodyFault, CellsRefusal};
 /// The body is not that of cells under the card, or the cells do not read.
 #[derive(Clone, Copy, PartialEq, Eq, Debug, Error)]
 pub enum WordRefusal {
+    /// The body is not that of cells under the card.
     #[error(transparent)]
     Body(BodyFault),
+    /// The cells do not read.
     #[error(transparent)]
     Unread(ReadRefusal),
 }

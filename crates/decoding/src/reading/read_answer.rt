@@ -7,7 +7,9 @@ use thiserror::Error;
 /// How many noted cells differ from the shown word, and how many cells are blank.
 #[derive(Clone, Copy, PartialEq, Eq, Debug)]
 pub struct Counts {
+    /// How many noted cells have another letter than the word.
     pub wrong: usize,
+    /// How many cells are blank.
     pub blank: usize,
 }
 

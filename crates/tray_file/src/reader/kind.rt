@@ -7,8 +7,11 @@ use thiserror::Error;
 /// The kinds of records. Each kind has the number that names it in a file.
 #[derive(Clone, Copy, PartialEq, Eq, Debug)]
 pub enum Kind {
+    /// A card.
     Card = 1,
+    /// The cells of a tag.
     Cells = 2,
+    /// A note.
     Note = 3,
 }
 

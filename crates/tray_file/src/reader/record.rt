@@ -7,8 +7,11 @@ use crate::reader::kind::Kind;
 /// A record, which holds the part of the file that is its body, without its kind and length.
 #[derive(Clone, Copy)]
 pub enum Record<'a> {
+    /// A card: its values as numbers (`read_card`).
     Card(&'a [u8]),
+    /// The cells of a tag under the last card: n numbers (`read_cells`).
     Cells(&'a [u8]),
+    /// A note: plain bytes.
     Note(&'a [u8]),
 }
 

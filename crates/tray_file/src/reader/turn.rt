@@ -15,7 +15,8 @@ pub(crate) enum Turn {
     AfterNote(CardShape),
 }
 
-// What a record in turn must be: a card, cells under the card, or a note.
+// What a record in turn must be: a card, cells under the card, or a note. `pub` for the proofs of
+// other crates, and not exported.
 #[derive(Clone, Copy)]
 pub enum Task {
     Card,
