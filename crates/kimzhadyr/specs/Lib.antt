@@ -78,3 +78,12 @@ pub use Rattle.tray_report.specs.WordUnder
 pub use Rattle.tray_report.specs.FileLines
 pub use Rattle.tray_report.specs.FileText
 pub use Rattle.tray_report.specs.ReportLines
+-- theorems and worked examples; those of codes stand above, in Theorems
+pub use Rattle.algebra.specs.Places
+pub use Rattle.algebra.specs.ErrorLocators
+pub use Rattle.algebra.specs.WorkedExample
+pub use Rattle.fields.specs.PolynomialLaws
+pub use Rattle.minimal_pairs.specs.WorkedPairs
+pub use Rattle.decoding.specs.encoding.CodeExamples
+pub use Rattle.tray_file.specs.number.NumberReading
+pub use Rattle.tray_file.specs.number.NumberExamples

@@ -12,5 +12,7 @@ pub mod field;
 pub mod minimal_pair;
 /// Tags: lines of marks, the calls of a tag, and runs of calls.
 pub mod tag;
+/// Theorems and worked examples: calls that do nothing, and whose clauses are what is proved.
+pub mod theorem;
 /// Tray files: a reader of their records, the bodies, the writers, and the lines of a file.
 pub mod tray;
