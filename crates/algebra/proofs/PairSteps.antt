@@ -1,5 +1,4 @@
 -- What the steps of the algorithm for minimal pairs do, about numbers (specs/PairSteps.antt), carried from the field of elements.
---
 use Rattle.std.proofs.Common.{◌≡◌, ◌≢◌, ℕ, zero, suc, ◌+◌, ◌-◌, ◌<◌, ◌≤◌, ltb, List, length, get_or, sym, ap, ◌∙◌, ap₂, ⊎_elim, arith}
 use mathlib.Core.Path.{subst⁻¹}
 use Rattle.std.proofs.lemmas.Bool.{cases_lt, cond_both, cond-true, cond-false, lt-ltb, le-ltb}

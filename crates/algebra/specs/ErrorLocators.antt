@@ -28,8 +28,8 @@ abbrev pub modified_sum : Arithmetic → ℕ → (ℕ → ℕ) → (ℕ → ℕ)
 modified_sum A n a h E u k = act A (annihilator A (map a E)) (noted_sum A n a h E u) k
 
 -- f is orthogonal to the modified syndromes, as far as r sums go
-abbrev pub FitsModified : Arithmetic → ℕ → ℕ → (ℕ → ℕ) → (ℕ → ℕ) → (ℕ → ℕ) → List ℕ
-    → List ℕ → Type 0
+abbrev pub FitsModified : Arithmetic → ℕ → ℕ → (ℕ → ℕ) → (ℕ → ℕ) → (ℕ → ℕ)
+    → List ℕ → List ℕ → Type 0
 FitsModified A n r a h u E f =
     (k : ℕ) → k + length f + length E ≤ r → act A f (modified_sum A n a h E u) k ≡ 0
 

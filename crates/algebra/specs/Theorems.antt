@@ -130,7 +130,8 @@ noted_sum A n a h E v k =
 -- every order of the cells gives the same sums
 abbrev pub WordReordering : Arithmetic → Type 0
 WordReordering A =
-    (n k : ℕ) (a h v p q : ℕ → ℕ) → ((i : ℕ) → i < n → p i < n) → ((i : ℕ) → i < n → q i < n)
+    (n k : ℕ) (a h v p q : ℕ → ℕ)
+    → ((i : ℕ) → i < n → p i < n) → ((i : ℕ) → i < n → q i < n)
     → ((i : ℕ) → i < n → q (p i) ≡ i) → ((i : ℕ) → i < n → p (q i) ≡ i)
     → word_sum A n (λ i. a (p i)) (λ i. h (p i)) (λ i. v (p i)) k ≡ word_sum A n a h v k
 
@@ -140,7 +141,8 @@ Distance m =
     (n r : ℕ) (a h v w : ℕ → ℕ) → Locators m.arithmetic n a → Multipliers m.arithmetic n h
     → Elements m.arithmetic n v → Elements m.arithmetic n w → distance n v w ≤ r
     → ((k : ℕ) → k < r → word_sum m.arithmetic n a h v k ≡ 0)
-    → ((k : ℕ) → k < r → word_sum m.arithmetic n a h w k ≡ 0) → (i : ℕ) → i < n → v i ≡ w i
+    → ((k : ℕ) → k < r → word_sum m.arithmetic n a h w k ≡ 0)
+    → (i : ℕ) → i < n → v i ≡ w i
 
 -- the letter at the erased place j from the sums S over the places outside E: −(Σ_k P_k S_k) / (h_j
 -- P(a_j)), P the cofactor of j
@@ -163,7 +165,8 @@ FillingOnly m =
 -- E are
 abbrev pub FillingMakes : Meaning → Type 0
 FillingMakes m =
-    (n : ℕ) (a h u : ℕ → ℕ) (E : List ℕ) → Locators m.arithmetic n a → Multipliers m.arithmetic n h
+    (n : ℕ) (a h u : ℕ → ℕ) (E : List ℕ)
+    → Locators m.arithmetic n a → Multipliers m.arithmetic n h
     → ((j : ℕ) → j < n → (Member j E → ⊥) → u j < m.arithmetic.size) → DistinctPlaces n E
     → (k : ℕ) → k < length E
     → word_sum m.arithmetic n a h

@@ -1,5 +1,4 @@
 -- Cells without a blank are a codeword exactly when their letters are below the alphabet size and their sums are 0.
---
 use Rattle.std.proofs.Common.{◌≡◌, ℕ, ◌<◌, List, length, get_or, sym, ◌∙◌, subst, zero-add, arith}
 use Rattle.std.proofs.lemmas.List.FromFn.{get_or-map-range_with_len, length-map-range_with_len}
 use Rattle.algebra.specs.Meaning.{Arithmetic}

@@ -17,7 +17,8 @@ Judged A code cells Codeword =
     (word : List ℕ) × (cells ≡ noted word) × codeword.Codeword A code word
 Judged A code cells (Unfinished count) = (count ≡ blanks cells) × (0 < count)
 Judged A code cells Damaged =
-    (blanks cells ≡ 0) × ((word : List ℕ) → cells ≡ noted word → codeword.Codeword A code word → ⊥)
+    (blanks cells ≡ 0)
+    × ((word : List ℕ) → cells ≡ noted word → codeword.Codeword A code word → ⊥)
 
 -- The sums stand in the buffer beside the standing where the lengths are right; else the refusal is
 -- 25, and the buffer is as it was.

@@ -34,8 +34,8 @@ every : (ℕ → Bool) → List ℕ → Bool
 every test [] = true
 every test (x ∷ xs) = test x && every test xs
 
-every_at : (test : ℕ → Bool) (xs : List ℕ) (p : ℕ) → every test xs ≡ true → stands_in p xs ≡ true
-    → test p ≡ true
+every_at : (test : ℕ → Bool) (xs : List ℕ) (p : ℕ)
+    → every test xs ≡ true → stands_in p xs ≡ true → test p ≡ true
 unfolding every stands_in
 every_at test [] p all stands = absurd (both_ways _ refl stands)
 every_at test (x ∷ xs) p all stands =

@@ -31,7 +31,8 @@ no_factor f (suc (suc q)) d i l h e = i.no_product (suc (suc q)) d (omega arith)
 -- Trial division: of two factors one has at most half the degree of the product, so it is enough to
 -- try these.
 pub trial_division : (f m : ℕ) → 2 ≤ f → Degree f m
-    → ((d k : ℕ) → 2 ≤ d → d < 2 ^ suc (m / 2) → Degree d k → remainder d k f ≢ 0) → Irreducible f
+    → ((d k : ℕ) → 2 ≤ d → d < 2 ^ suc (m / 2) → Degree d k → remainder d k f ≢ 0)
+    → Irreducible f
 trial_division f m l p none = record { no_constant = l; no_product = product }
   where
     small : (a b i : ℕ) → 2 ≤ a → Degree a i → i ≤ m / 2 → a ⊗ b ≡ f → ⊥
@@ -52,8 +53,8 @@ trial_division f m l p none = record { no_constant = l; no_product = product }
         (cases_lt i (suc (m / 2)))
 
 -- a divisor from 2 on that leaves no remainder is a factor, and so is the quotient
-pub trial_factors : (f m d k : ℕ) → 2 ≤ f → Degree f m → 2 ≤ d → d < 2 ^ suc (m / 2) → Degree d k
-    → remainder d k f ≡ 0 → Factored f
+pub trial_factors : (f m d k : ℕ) → 2 ≤ f → Degree f m
+    → 2 ≤ d → d < 2 ^ suc (m / 2) → Degree d k → remainder d k f ≡ 0 → Factored f
 trial_factors f m d k two df l h dd z =
     let (q, e) = factor_from d k f dd z in
     let hi = degree_below d k (suc (m / 2)) dd h in

@@ -23,8 +23,8 @@ step_text (step.Fault line) = fault_text line ++ codes "\n"
 -- The text of a record at a place and of all that comes after it. A card is the last one for what
 -- comes after it, a note tells nothing, and cells tell their line, under the last card, and are
 -- counted.
-abbrev pub RecordText : Kind → ℕ → List ℕ → List ℕ → EndLine → (List ℕ → EndLine → List ℕ → Type 0)
-    → List ℕ → Type 0
+abbrev pub RecordText : Kind → ℕ → List ℕ → List ℕ → EndLine
+    → (List ℕ → EndLine → List ℕ → Type 0) → List ℕ → Type 0
 RecordText Card place body card counts Later text = Later body counts text
 RecordText Note place body card counts Later text = Later card counts text
 RecordText Cells place body card counts Later text =

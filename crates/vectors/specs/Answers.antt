@@ -28,8 +28,8 @@ RefusedText number text =
 -- the numbers of all refusals
 abbrev pub refusal_numbers : List ℕ
 refusal_numbers =
-    10 ∷ 11 ∷ 12 ∷ 13 ∷ 14 ∷ 15 ∷ 16 ∷ 17 ∷ 18 ∷ 21 ∷ 22 ∷ 23 ∷ 24 ∷ 25 ∷ 26 ∷ 28 ∷ 31 ∷ 32 ∷ 33
-    ∷ 34 ∷ 35 ∷ 36 ∷ 37 ∷ 38 ∷ []
+    10 ∷ 11 ∷ 12 ∷ 13 ∷ 14 ∷ 15 ∷ 16 ∷ 17 ∷ 18 ∷ 21 ∷ 22 ∷ 23 ∷ 24
+    ∷ 25 ∷ 26 ∷ 28 ∷ 31 ∷ 32 ∷ 33 ∷ 34 ∷ 35 ∷ 36 ∷ 37 ∷ 38 ∷ []
 
 -- the refusal with this number, or that there is none
 abbrev pub RefusalShown : ℕ → List ℕ → Type 0

@@ -93,13 +93,13 @@ module _ {m : Meaning} {code : Code} (checked : Checked m code) (cells : List Ce
   abbrev u : ℕ → ℕ
   u j = unwrap_or (get_or cells j blank_cell).letter 0
 
-  locators : Locators A n a
+  pub locators : Locators A n a
   locators = subst (λ i. Locators A i a) (sym long) checked.locators
 
-  multipliers : Multipliers A n h
+  pub multipliers : Multipliers A n h
   multipliers = subst (λ i. Multipliers A i h) (checked.shape.a_multiplier_each ∙ sym long) checked.multipliers
 
-  places : DistinctPlaces n E
+  pub places : DistinctPlaces n E
   places = record { below = λ j m. (failing_only n _ j m).0; distinct = distinct_failing n _ }
 
   -- the syndrome is the sum over the places that are not erased

@@ -8,7 +8,6 @@ use Rattle.std.proofs.lemmas.Bool.{cases_lt, cases_eq, eqb-true, eq-eqb, true≢
 use Rattle.algebra.specs.Meaning.{Arithmetic, Meaning}
 use Rattle.algebra.specs.Places.{Member, failures, failing}
 use Rattle.algebra.specs.Polynomial.{AllElements, annihilator, act}
-use Rattle.algebra.specs.Theorems.{noted_sum, DistinctPlaces}
 use Rattle.algebra.specs.ErrorLocators.{agrees, errors, modified_sum, FitsModified}
 use Rattle.algebra.specs.Realisation.{Degree, Fits, Minimal}
 use Rattle.algebra.proofs.Counts.{failing_only, distinct_failing, length_failing, failures_two}
@@ -26,7 +25,7 @@ use Rattle.codes.specs.Sums.{syndromes}
 use Rattle.codes.specs.Standings.{Lettered}
 use Rattle.codes.specs.declared.cell.Cell.{Cell}
 use Rattle.decoding.proofs.filling_lemmas.Blanks.{length_blank_places, blanks_are}
-use Rattle.decoding.proofs.filling_lemmas.FilledWords.{noted_sum_is, fills_only}
+use Rattle.decoding.proofs.filling_lemmas.FilledWords.{noted_sum_is, fills_only, locators as filled_locators}
 use Rattle.decoding.specs.reading.Reading.{wrong, Near}
 use Rattle.decoding.specs.reading.Erasing.{root, erased_cell, erased}
 use Rattle.decoding.proofs.reading_lemmas.NearWords.{letter_or_zero, errors_are, received}
@@ -122,7 +121,7 @@ module _ (m : Meaning) (code : Code) (checked : Checked m code) (cells : List Ce
       pub roots_few : failures n (λ j. not (root A p (get_or code.locators j 0))) ≤ d
       roots_few =
           let Z = failing n (λ j. not (root A p (get_or code.locators j 0))) in
-          let less = few_roots checked.laws n d a Z p (subst (λ (n : ℕ). Rattle.algebra.specs.Theorems.Locators A n a) (sym long) checked.locators)
+          let less = few_roots checked.laws n d a Z p (filled_locators checked cells long)
           (record { below = λ j is. (failing_only n _ j is).0; distinct = distinct_failing n _ }) p_elements
           (λ j is. eqb-true _ 0 (not_false' (root A p (a j)) (failing_only n _ j is).1))
           (λ zero. minimal.degree.leads (sym (get_or-take (suc d) f d 0 (omega arith)) ∙ zero)) in

@@ -1,5 +1,4 @@
 -- A codeword and the cells that it was noted in: errors and erasures by places, and that at most one codeword is near.
---
 use Rattle.std.proofs.Common.{◌≡◌, ℕ, zero, suc, ◌+◌, ◌<◌, ◌≤◌, Bool, true, false, cond, eqb, List, [], ◌∷◌, length, get_or, is_some, Some, None, Option, unwrap_or, sym, refl, ap, ◌∙◌, subst, ap₂, arith}
 use Rattle.std.proofs.lemmas.List.{ext_get_or}
 use Rattle.std.proofs.lemmas.Bool.{true≢false}
@@ -8,7 +7,7 @@ use Rattle.algebra.specs.Places.{member, failures}
 use Rattle.algebra.specs.Theorems.{Elements, Locators, Multipliers, DistinctPlaces}
 use Rattle.algebra.specs.ErrorLocators.{errors, Received}
 use Rattle.algebra.proofs.Places.{member_if, member_not}
-use Rattle.algebra.proofs.Counts.{failing_only, failing_if, distinct_failing}
+use Rattle.algebra.proofs.Counts.{failing_only, failing_if}
 use Rattle.algebra.proofs.Decoding.{only_near}
 use Rattle.codes.specs.Code.{Code}
 use Rattle.codes.specs.Checked.{Checked}
@@ -17,6 +16,7 @@ use Rattle.codes.specs.Codeword.{Codeword}
 use Rattle.decoding.specs.filling.Fillings.{number_at, blank_places}
 use Rattle.codes.specs.Standings.{BelowIfNoted, Lettered}
 use Rattle.codes.specs.declared.cell.Cell.{Cell}
+use Rattle.decoding.proofs.filling_lemmas.FilledWords as filled_words
 use Rattle.decoding.proofs.filling_lemmas.Blanks.{failures_front, length_blank_places}
 use Rattle.decoding.specs.reading.Reading.{wrong, one_if_wrong, Near}
 
@@ -61,9 +61,6 @@ module _ (cells : List Cell) where
       failures_same (length cells) _ _ (λ j h. agree_tests (get_or cells j blank_cell).letter (get_or word j 0) (member j (blank_places cells)) (blank_member j h) (noted_member j))
       ∙ wrong_count cells word long
 
-  pub distinct_blanks : DistinctPlaces (length cells) (blank_places cells)
-  distinct_blanks = record { below = λ j is. (failing_only (length cells) _ j is).0; distinct = distinct_failing (length cells) _ }
-
 letter_below : (letter : Option ℕ) (letters size : ℕ) → letters ≤ size → 0 < size → BelowIfNoted letters letter → unwrap_or letter 0 < size
 letter_below None letters size most some below = some
 letter_below (Some x) letters size most some below = omega arith
@@ -79,9 +76,9 @@ module _ (m : Meaning) (code : Code) (checked : Checked m code) (cells : List Ce
       let size = checked.laws.total.smallest in
       let most = checked.alphabet.elements in
       record {
-        locators = subst (λ (n : ℕ). Locators A n (number_at code.locators)) (sym long) checked.locators;
-        multipliers = subst (λ (n : ℕ). Multipliers A n (number_at code.multipliers)) (checked.shape.a_multiplier_each ∙ sym long) checked.multipliers;
-        erased = distinct_blanks cells;
+        locators = filled_words.locators checked cells long;
+        multipliers = filled_words.multipliers checked cells long;
+        erased = filled_words.places checked cells long;
         noted = λ j h outside. letter_below (get_or cells j blank_cell).letter code.letters A.size most (omega arith) (lettered j h);
         letters = λ j h. let below = c.lettered j (omega (arith, c.long)) in omega arith;
         codeword = λ k h. subst (λ (n : ℕ). Rattle.algebra.specs.Theorems.word_sum A n (number_at code.locators) (number_at code.multipliers) (number_at word) k ≡ 0) (c.long ∙ sym long) (c.zeros k h);

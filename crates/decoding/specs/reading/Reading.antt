@@ -42,8 +42,8 @@ abbrev pub Reading : Arithmetic → Code → List Cell → List ℕ → List ℕ
     → Result Counts ReadRefusal → Type 0
 Reading A code cells before after (Ok counts) =
     (length before ≡ length code.locators) × Near A code cells after
-    × ((word : List ℕ) → Near A code cells word → word ≡ after) × (counts.wrong ≡ wrong cells after)
-    × (counts.blank ≡ blanks cells)
+    × ((word : List ℕ) → Near A code cells word → word ≡ after)
+    × (counts.wrong ≡ wrong cells after) × (counts.blank ≡ blanks cells)
 Reading A code cells before after (Err WrongLength) =
     (length before ≢ length code.locators) × (after ≡ before)
 Reading A code cells before after (Err TooBlank) =

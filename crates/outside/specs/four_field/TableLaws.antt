@@ -19,8 +19,8 @@ all_below_at (suc n) test t a h =
     ⊎_elim (λ (e : a ≡ n). subst (λ (x : ℕ). test x ≡ true) (sym e) parts.0)
     (λ other. all_below_at n test parts.1 a (omega arith)) (cases_eq a n)
 
-pub law_of_one : (f g : ℕ → ℕ) → all_below 4 (λ a. nat_eq (f a) (g a)) ≡ true → (a : ℕ) → a < 4
-    → f a ≡ g a
+pub law_of_one : (f g : ℕ → ℕ) → all_below 4 (λ a. nat_eq (f a) (g a)) ≡ true
+    → (a : ℕ) → a < 4 → f a ≡ g a
 law_of_one f g t a ha = eqb-true _ _ (all_below_at 4 (λ a. nat_eq (f a) (g a)) t a ha)
 
 pub law_of_two : (f g : ℕ → ℕ → ℕ)

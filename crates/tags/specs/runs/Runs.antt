@@ -108,10 +108,14 @@ pub record RunLaw (A : Arithmetic) (code : Code) (journal : List Event) : Type 0
       → Keeps code word (sheet_at code journal k) (call_of event))
       → slice_get journal j ≡ Some last → call_of last ≡ call.Read (width code) → Shows word last
 
+-- What workers of a type may pick: the worker before, all events so far, the call or nothing, and
+-- the worker after.
+abbrev pub Picks : Type 0 → Type 1
+Picks W = W → List Event → Option Call → W → Type 0
+
 -- The worker, who has seen the earlier events, picks the calls of these events one after another,
 -- each in view of all events before it.
-abbrev pub PicksAll : {W : Type 0} → (W → List Event → Option Call → W → Type 0) → List Event → W
-    → List Event → W → Type 0
+abbrev pub PicksAll : {W : Type 0} → Picks W → List Event → W → List Event → W → Type 0
 PicksAll picks earlier worker [] last = worker ≡ last
 PicksAll {W} picks earlier worker (event ∷ events) last =
     (next : W) × picks worker earlier (Some (call_of event)) next
@@ -119,8 +123,7 @@ PicksAll {W} picks earlier worker (event ∷ events) last =
 
 -- either the worker stopped after these events, while the journal had room for more, or they fill
 -- all places of the journal
-abbrev pub Ended : {W : Type 0} → (W → List Event → Option Call → W → Type 0) → W → W → List Event
-    → ℕ → Bool → Type 0
+abbrev pub Ended : {W : Type 0} → Picks W → W → W → List Event → ℕ → Bool → Type 0
 Ended {W} picks first last events places true =
     (worker : W) × PicksAll picks [] first events worker × picks worker events None last
     × (length events < places)
@@ -130,8 +133,8 @@ Ended {W} picks first last events places false =
 -- The journal is the play: its first events are of the calls that the worker picked, in order and
 -- without a gap, until the worker stopped or the journal was full, and the places after them are as
 -- they were.
-pub record Play {W : Type 0} (picks : W → List Event → Option Call → W → Type 0) (first last : W)
-    (before after : List Event) (played : Played) : Type 0 where
+pub record Play {W : Type 0} (picks : Picks W) (first last : W) (before after : List Event)
+    (played : Played) : Type 0 where
   pub within : played.events ≤ length after
   pub ended : Ended picks first last (take played.events after) (length before) played.stopped
   pub others : drop played.events after ≡ drop played.events before
