@@ -23,14 +23,18 @@ card_number NoAlphabet = 14
 card_number BadLocator = 15
 card_number BadMultiplier = 16
 
--- The first rule that the values break, in this order: shape, alphabet, locators, multipliers.
+-- The first rule that the values break, in this order: 13 for the shape, 14 for the alphabet, 15
+-- for the locators, 16 for the multipliers.
 abbrev pub CardRefused : Meaning → Code → CardCause → Type 0
-CardRefused m code BadShape = Shape code → ⊥
-CardRefused m code NoAlphabet = Shape code × (Alphabet m.arithmetic code.letters → ⊥)
+CardRefused m code BadShape = (card_number BadShape ≡ 13) × (Shape code → ⊥)
+CardRefused m code NoAlphabet =
+    (card_number NoAlphabet ≡ 14) × Shape code × (Alphabet m.arithmetic code.letters → ⊥)
 CardRefused m code BadLocator =
-    Shape code × Alphabet m.arithmetic code.letters × (LocatorsFit m code.locators → ⊥)
+    (card_number BadLocator ≡ 15)
+    × Shape code × Alphabet m.arithmetic code.letters × (LocatorsFit m code.locators → ⊥)
 CardRefused m code BadMultiplier =
-    Shape code × Alphabet m.arithmetic code.letters × LocatorsFit m code.locators
+    (card_number BadMultiplier ≡ 16)
+    × Shape code × Alphabet m.arithmetic code.letters × LocatorsFit m code.locators
     × (MultipliersFit m code.multipliers → ⊥)
 
 -- A granted card holds exactly what was given and is checked; else the first broken rule is

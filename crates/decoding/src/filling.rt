@@ -3,48 +3,44 @@ mod erasures;
 mod fill_refusal;
 mod polynomial;
 
-ghost use Rattle.std.specs.Prelude.{◌≡◌};
+ghost use Rattle.std.specs.Prelude.{◌≡◌, ◌≤◌};
+ghost use Rattle.algebra.specs.Limits.{largest_rows};
 ghost use Rattle.codes.specs.Code.{code_of};
-ghost use Rattle.decoding.specs.filling.Fillings.{filled, FillLengths, FewBlanks, Filling, FillingLaws};
+ghost use Rattle.codes.specs.Cards.{card_code};
+ghost use Rattle.codes.specs.Cells.{blanks};
+ghost use Rattle.decoding.specs.filling.Fillings.{filled, FillLengths, Filling, FillingLaws};
 
-use algebra::LARGEST_ROWS;
-use codes::{Cell, CodeOver, count_blanks};
+use codes::{Card, Cell, CodeOver, count_blanks};
 use erasures::Erasures;
 pub(crate) use erasures::blank_annihilator;
-use fields::Field;
+use fields::{Field, LetteredField};
 pub use fill_refusal::FillRefusal;
 pub(crate) use polynomial::Polynomial;
 
 /// Writes into `word`, a buffer of n numbers, the noted letters and, at the blanks, the letters
-/// that `sums` give: the r sums over the noted cells. Over a card, a codeword that agrees with the
-/// noted cells has these letters. Refused with 25 where the cells, the multipliers or the buffer
-/// are not as many as the locators, or there is not a sum for each row, then 23 where more cells
-/// are blank than the code has rows, or more than 64. The buffer is then as it was.
-pub fn fill<F: Field>(
-    over: CodeOver<'_, F>,
+/// that `sums` give: the r sums over the noted cells. A codeword that agrees with the noted cells
+/// has these letters. Refused with 25 where the cells or the buffer are not as many as the card's
+/// cells, or there is not a sum for each row, then 23 where more cells are blank than the card has
+/// rows. The buffer is then as it was.
+pub fn fill<F: LetteredField>(
+    card: &Card<F>,
     cells: &[Cell],
     sums: &[u32],
     word: &mut [u32],
 ) -> Result<(), FillRefusal>
-    ensures outcome { Filling (F.Field.meaning over.entry.field.now) (code_of over.entry.code)
+    ensures outcome { Filling (F.Field.meaning card.now.field) (card_code card.now)
         cells.now sums.now word.old word.new result }
-    ensures laws { FillingLaws (F.Field.meaning over.entry.field.now) (code_of over.entry.code) }
+    ensures laws { FillingLaws (F.Field.meaning card.now.field) (card_code card.now) }
 {
-    let code = over.code;
-    let n = code.locators.len();
-    if code.multipliers.len() != n
-        || cells.len() != n
-        || sums.len() != code.rows
-        || word.len() != n
-    {
+    let n = card.cells();
+    let rows = card.code().rows;
+    if cells.len() != n || sums.len() != rows || word.len() != n {
         return Err(FillRefusal::WrongLength);
     }
-    // A code that is no card's may have more rows than a polynomial has places for.
-    let blanks = count_blanks(cells);
-    if blanks > code.rows || blanks > LARGEST_ROWS {
+    if count_blanks(cells) > rows {
         return Err(FillRefusal::TooBlank);
     }
-    write_letters(over, cells, sums, word);
+    write_letters(card.over(), cells, sums, word);
     Ok(())
 }
 
@@ -56,7 +52,8 @@ pub(crate) fn write_letters<F: Field>(
     word: &mut [u32],
 )
     requires lengths { FillLengths (code_of over.code) cells.now sums.now word.old }
-    requires few { FewBlanks (code_of over.code) cells.now }
+    requires few { blanks cells.now ≤ (code_of over.code).rows }
+    requires largest { blanks cells.now ≤ largest_rows }
     ensures { word.new
         ≡ filled (F.Field.meaning over.entry.field.now) (code_of over.entry.code)
         cells.now sums.now }

@@ -7,4 +7,4 @@ mod reading;
 
 pub use encoding::{EncodeRefusal, code_examples, encode};
 pub use filling::{FillRefusal, fill};
-pub use reading::{Counts, ReadRefusal, one_reading, read_cells};
+pub use reading::{Counts, ReadRefusal, read_cells};

@@ -29,8 +29,9 @@ pub fn read_cells<F: LetteredField>(
 ) -> Result<Counts, ReadRefusal>
     requires long { length cells.now ≡ length (card_code card.now).locators }
     requires lettered { Lettered (card_code card.now).letters cells.now }
-    ensures { Reading (card_arithmetic card.now) (card_code card.now)
+    ensures outcome { Reading (card_arithmetic card.now) (card_code card.now)
         cells.now word.old word.new result }
+    ensures one { OneReading }
 {
     if word.len() != card.cells() {
         return Err(ReadRefusal::WrongLength);
@@ -48,9 +49,3 @@ pub fn read_cells<F: LetteredField>(
     word.copy_from_slice(candidate);
     Ok(Counts { wrong, blank })
 }
-
-/// Exactly one outcome meets the contract of a read. The call does nothing: its clause is the
-/// theorem.
-pub fn one_reading()
-    ensures { OneReading }
-{}

@@ -31,4 +31,4 @@ abbrev pub BinaryFieldMade : ℕ → Result BinaryField FieldCause → Type 0
 BinaryFieldMade f (Ok x) =
     BinaryModulus f x.degree × (binary_meaning x ≡ with_inverses (modulo_polynomial f x.degree))
     × binary_accepted x × (x.modulus ≡ f)
-BinaryFieldMade f (Err cause) = NoModulus f × (field_number cause ≡ 12)
+BinaryFieldMade f (Err cause) = (field_number cause ≡ 12) × NoModulus f

@@ -1,11 +1,12 @@
 -- What the definitions on polynomials over two elements are held to: the laws of a ring, what a
 -- remainder is, and examples.
-use Rattle.std.specs.Prelude.{◌≡◌, ℕ, ◌+◌, bit_xor}
+use Rattle.std.specs.Prelude.{◌≡◌, ℕ, ◌+◌, ◌^◌, bit_xor}
 use Rattle.fields.specs.CarrylessProduct.{◌⊗◌}
 use Rattle.fields.specs.LongDivision.{Degree, Remainder, remainder}
 
--- with exclusive or as the sum, the carry-less product makes a commutative ring in which degrees
--- add up
+-- With exclusive or as the sum, the carry-less product makes a commutative ring in which degrees
+-- add up. The last two laws pin it: X^i times X^j is X^(i + j), every polynomial is a sum of powers
+-- of X, and the product is distributive.
 pub record CarrylessRing : Type 0 where
   pub sum_assoc : (a b c : ℕ) → bit_xor (bit_xor a b) c ≡ bit_xor a (bit_xor b c)
   pub sum_comm : (a b : ℕ) → bit_xor a b ≡ bit_xor b a
@@ -14,8 +15,9 @@ pub record CarrylessRing : Type 0 where
   pub product_assoc : (a b c : ℕ) → a ⊗ b ⊗ c ≡ a ⊗ (b ⊗ c)
   pub product_comm : (a b : ℕ) → a ⊗ b ≡ b ⊗ a
   pub product_one : (a : ℕ) → a ⊗ 1 ≡ a
-  pub product_sum : (a b c : ℕ) → a ⊗ bit_xor b c ≡ bit_xor (a ⊗ b) (a ⊗ c)
   pub product_degree : (a b j k : ℕ) → Degree a j → Degree b k → Degree (a ⊗ b) (j + k)
+  pub product_sum : (a b c : ℕ) → a ⊗ bit_xor b c ≡ bit_xor (a ⊗ b) (a ⊗ c)
+  pub product_powers : (i j : ℕ) → 2 ^ i ⊗ 2 ^ j ≡ 2 ^ (i + j)
 
 -- long division gives a remainder, and there is no other
 pub record DivisionLaw : Type 0 where

@@ -18,4 +18,4 @@ abbrev pub PrimeFieldMade : ℕ → Result PrimeField FieldCause → Type 0
 PrimeFieldMade p (Ok f) =
     Listed p × Prime p × (prime_meaning f ≡ with_inverses (modulo p)) × prime_accepted f
     × (f.prime ≡ p)
-PrimeFieldMade p (Err cause) = (Listed p → ⊥) × (field_number cause ≡ 11)
+PrimeFieldMade p (Err cause) = (field_number cause ≡ 11) × (Listed p → ⊥)

@@ -39,7 +39,7 @@ module _ (m : Meaning) (code : Code) (checked : Checked m code) (cells : List Ce
   shows word near = (on_tag, the_only (λ before. word) _ (λ before room. (room, near, (λ other also. near_only m code checked cells long lettered other word also near), refl, refl)))
 
   pub refuses_lost : blanks cells ≤ reach code → ((word : List ℕ) → Near m.arithmetic code cells word → ⊥) → Refuses m code cells 24
-  refuses_lost few none = (on_tag, (Lost, refl, the_only (λ before. before) _ (λ before room. (room, few, none, refl))))
+  refuses_lost few none = (on_tag, (Lost, refl, the_only (λ before. before) _ (λ before room. (refl, room, few, none, refl))))
 
   pub refuses_too_blank : reach code < blanks cells → Refuses m code cells 23
-  refuses_too_blank many = (on_tag, (TooBlank, refl, the_only (λ before. before) _ (λ before room. (room, many, refl))))
+  refuses_too_blank many = (on_tag, (TooBlank, refl, the_only (λ before. before) _ (λ before room. (refl, room, many, refl))))

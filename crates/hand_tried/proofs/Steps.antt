@@ -46,8 +46,8 @@ module _ (A : Arithmetic) (s : List ℕ) (d : ℕ) (f w : List ℕ) (short : len
   only_pair : (before : List ℕ × List ℕ) → Room before → (after : List ℕ × List ℕ) (r : Result ℕ RealiseRefusal) →
       Realised A s before.0 before.1 after.0 after.1 r → (after ≡ (f, w)) × (r ≡ Ok d)
   only_pair before room after (Ok degree) is = (ap₂ (λ (f w : List ℕ). (f, w)) (is.3 ∙ pair.1) (is.4 ∙ pair.2), ap Ok (is.2 ∙ pair.0))
-  only_pair before room after (Err realise.WrongLength) is = absurd (is.0 (lengths before room))
-  only_pair before room after (Err realise.NoElement) is = absurd (is.1 elements)
+  only_pair before room after (Err realise.WrongLength) is = absurd (is.1 (lengths before room))
+  only_pair before room after (Err realise.NoElement) is = absurd (is.2 elements)
 
   realises_to : RealisesTo A s d f w
   realises_to = record { this = λ before room. (lengths before room, elements, sym pair.0, sym pair.1, sym pair.2); only = only_pair }
@@ -80,9 +80,9 @@ data_lengths before room = record { data_each = refl; a_place_each = room }
 
 only_encoded : (before : List ℕ) → Places 6 before → (after : List ℕ) (r : Result (Unit {0}) EncodeRefusal) → Encoded modulo_seven small_code (0 ∷ 2 ∷ []) before after r → (after ≡ encoded_word) × (r ≡ Ok tt)
 only_encoded before room after (Ok done) is = (is.3 ∙ encoding_example, refl)
-only_encoded before room after (Err encode.PartAlphabet) is = absurd (let part = is.0 in omega arith)
-only_encoded before room after (Err encode.WrongLength) is = absurd (is.0.1 (data_lengths before room))
-only_encoded before room after (Err encode.NoLetter) is = absurd (is.0.2 data_below)
+only_encoded before room after (Err encode.PartAlphabet) is = absurd (let part = is.0.1 in omega arith)
+only_encoded before room after (Err encode.WrongLength) is = absurd (is.0.2 (data_lengths before room))
+only_encoded before room after (Err encode.NoLetter) is = absurd (is.0.3 data_below)
 
 pub encoded : EncodesTo modulo_seven small_code (0 ∷ 2 ∷ []) encoded_word
 encoded = record {

@@ -107,8 +107,9 @@ abbrev pub realise_number : RealiseRefusal → ℕ
 realise_number WrongLength = 25
 realise_number NoElement = 17
 
--- The pair after the whole sequence stands in the buffers, and its degree is the answer. A wrong
--- length is refused first, then a number that is no element; both leave the buffers as they were.
+-- The pair after the whole sequence stands in the buffers, and its degree is the answer. Else the
+-- refusal is 25 for a wrong length, then 17 for a number that is no element; both leave the buffers
+-- as they were.
 abbrev pub Realised : Arithmetic → List ℕ → List ℕ → List ℕ → List ℕ → List ℕ
     → Result ℕ RealiseRefusal → Type 0
 Realised A s f w f_after w_after (Ok m) =
@@ -116,9 +117,10 @@ Realised A s f w f_after w_after (Ok m) =
     × (f_after ≡ (state_after A s (length s)).pair.f.coeffs)
     × (w_after ≡ (state_after A s (length s)).pair.w.coeffs)
 Realised A s f w f_after w_after (Err WrongLength) =
-    (Lengths s f w → ⊥) × (f_after ≡ f) × (w_after ≡ w)
+    (realise_number WrongLength ≡ 25) × (Lengths s f w → ⊥) × (f_after ≡ f) × (w_after ≡ w)
 Realised A s f w f_after w_after (Err NoElement) =
-    Lengths s f w × (OfElements A s → ⊥) × (f_after ≡ f) × (w_after ≡ w)
+    (realise_number NoElement ≡ 17) × Lengths s f w × (OfElements A s → ⊥)
+    × (f_after ≡ f) × (w_after ≡ w)
 
 -- what the answer is over a lawful field
 abbrev pub MinimalAnswer : Arithmetic → List ℕ → List ℕ → List ℕ → Result ℕ RealiseRefusal → Type 0

@@ -63,4 +63,4 @@ HouseCardOf row (Binary card) = BinaryCardOf row card
 -- The card of the row with this number; any other number is refused with 18.
 abbrev pub HouseCardMade : ℕ → Result AnyCard HouseRefusal → Type 0
 HouseCardMade number (Ok card) = IsHouseNumber number × HouseCardOf (house_row number) card
-HouseCardMade number (Err refusal) = (IsHouseNumber number → ⊥) × (house_number refusal ≡ 18)
+HouseCardMade number (Err refusal) = (house_number refusal ≡ 18) × (IsHouseNumber number → ⊥)

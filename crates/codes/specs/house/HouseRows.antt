@@ -63,7 +63,7 @@ house_number NoHouseCard = 18
 -- The row with this number; any other number is refused with 18.
 abbrev pub HouseRowFound : ℕ → Result HouseRow HouseRefusal → Type 0
 HouseRowFound number (Ok row) = IsHouseNumber number × (row ≡ house_row number)
-HouseRowFound number (Err refusal) = (IsHouseNumber number → ⊥) × (house_number refusal ≡ 18)
+HouseRowFound number (Err refusal) = (house_number refusal ≡ 18) × (IsHouseNumber number → ⊥)
 
 -- the locator of the first cell by a rule
 abbrev pub rule_first : LocatorRule → ℕ

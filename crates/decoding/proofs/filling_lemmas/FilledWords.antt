@@ -157,11 +157,11 @@ module _ {m : Meaning} {code : Code} (checked : Checked m code) (cells : List Ce
       (λ j within out. noted_below _ A.size (λ e. out (member_blank cells j within e)) (lettered j within)) places k
       (omega (arith, length_blank_places cells))
 
-pub fills_only : (m : Meaning) (code : Code) → FillsOnly m code
+pub fills_only : (m : Meaning) (code : Code) → Checked m code → FillsOnly m code
 fills_only m code checked cells long few = only checked cells long few
 
-pub fills_to_zero : (m : Meaning) (code : Code) → FillsToZero m code
+pub fills_to_zero : (m : Meaning) (code : Code) → Checked m code → FillsToZero m code
 fills_to_zero m code checked cells long = to_zero checked cells long
 
-pub filling_laws : (m : Meaning) (code : Code) → FillingLaws m code
-filling_laws m code = record { only = fills_only m code; zeros = fills_to_zero m code }
+pub filling_laws : (m : Meaning) (code : Code) → Checked m code → FillingLaws m code
+filling_laws m code checked = record { only = fills_only m code checked; zeros = fills_to_zero m code checked }

@@ -26,21 +26,21 @@ module _ (A : Arithmetic) (code : Code) (cells : List Cell) (before : List ℕ) 
   same after other (Ok a) (Ok b) h k =
       let equal = h.2 other k.1 in
       (equal, ap₂ (λ (w n : ℕ). Ok (record { wrong = w; blank = n })) (k.3 ∙ ap (wrong cells) equal ∙ sym h.3) (k.4 ∙ sym h.4))
-  same after other (Ok a) (Err WrongLength) h k = absurd (k.0 h.0)
-  same after other (Ok a) (Err TooBlank) h k = absurd (let close = h.1.close in let most = k.1 in omega arith)
-  same after other (Ok a) (Err Lost) h k = absurd (k.2 after h.1)
-  same after other (Err WrongLength) (Ok b) h k = absurd (h.0 k.0)
-  same after other (Err WrongLength) (Err WrongLength) h k = (k.1 ∙ sym h.1, refl)
-  same after other (Err WrongLength) (Err TooBlank) h k = absurd (h.0 k.0)
-  same after other (Err WrongLength) (Err Lost) h k = absurd (h.0 k.0)
-  same after other (Err TooBlank) (Ok b) h k = absurd (let close = k.1.close in let most = h.1 in omega arith)
-  same after other (Err TooBlank) (Err WrongLength) h k = absurd (k.0 h.0)
-  same after other (Err TooBlank) (Err TooBlank) h k = (k.2 ∙ sym h.2, refl)
-  same after other (Err TooBlank) (Err Lost) h k = absurd (let few = k.1 in let most = h.1 in omega arith)
-  same after other (Err Lost) (Ok b) h k = absurd (h.2 other k.1)
-  same after other (Err Lost) (Err WrongLength) h k = absurd (k.0 h.0)
-  same after other (Err Lost) (Err TooBlank) h k = absurd (let few = h.1 in let most = k.1 in omega arith)
-  same after other (Err Lost) (Err Lost) h k = (k.3 ∙ sym h.3, refl)
+  same after other (Ok a) (Err WrongLength) h k = absurd (k.1 h.0)
+  same after other (Ok a) (Err TooBlank) h k = absurd (let close = h.1.close in let most = k.2 in omega arith)
+  same after other (Ok a) (Err Lost) h k = absurd (k.3 after h.1)
+  same after other (Err WrongLength) (Ok b) h k = absurd (h.1 k.0)
+  same after other (Err WrongLength) (Err WrongLength) h k = (k.2 ∙ sym h.2, refl)
+  same after other (Err WrongLength) (Err TooBlank) h k = absurd (h.1 k.1)
+  same after other (Err WrongLength) (Err Lost) h k = absurd (h.1 k.1)
+  same after other (Err TooBlank) (Ok b) h k = absurd (let close = k.1.close in let most = h.2 in omega arith)
+  same after other (Err TooBlank) (Err WrongLength) h k = absurd (k.1 h.1)
+  same after other (Err TooBlank) (Err TooBlank) h k = (k.3 ∙ sym h.3, refl)
+  same after other (Err TooBlank) (Err Lost) h k = absurd (let few = k.2 in let most = h.2 in omega arith)
+  same after other (Err Lost) (Ok b) h k = absurd (h.3 other k.1)
+  same after other (Err Lost) (Err WrongLength) h k = absurd (k.1 h.1)
+  same after other (Err Lost) (Err TooBlank) h k = absurd (let few = h.2 in let most = k.2 in omega arith)
+  same after other (Err Lost) (Err Lost) h k = (k.4 ∙ sym h.4, refl)
 
 -- what holds of all numbers below a bound is decided where each is
 all_below? : (n : ℕ) (P : ℕ → Type 0) → ((j : ℕ) → Dec (P j)) → Dec ((j : ℕ) → j < n → P j)
@@ -74,7 +74,7 @@ module _ (m : Meaning) (code : Code) (checked : Checked m code) (cells : List Ce
   from_decoded : length before ≡ length code.locators → blanks cells ≤ reach code → (word : List ℕ) (r : Option ℕ) → Decoded A code cells word r → Some_outcome
   from_decoded room few word (Some count) found =
       (word, Ok (record { wrong = count; blank = blanks cells }), (room, found.0, (λ other near. near_only m code checked cells long lettered other word near found.0), found.1, refl))
-  from_decoded room few word None none = (before, Err Lost, (room, few, none, refl))
+  from_decoded room few word None none = (before, Err Lost, (refl, room, few, none, refl))
 
   found : blanks cells ≤ reach code → (word : List ℕ) × (r : Option ℕ) × Decoded A code cells word r
   found few =
@@ -91,9 +91,9 @@ module _ (m : Meaning) (code : Code) (checked : Checked m code) (cells : List Ce
   outcome : Some_outcome
   outcome =
       elim (cases_eq (length before) (length code.locators)) [
-        | inr other ↦ (before, Err WrongLength, (other, refl))
+        | inr other ↦ (before, Err WrongLength, (refl, other, refl))
         | inl room ↦ elim (cases_lt (reach code) (blanks cells)) [
-          | inl many ↦ (before, Err TooBlank, (room, many, refl))
+          | inl many ↦ (before, Err TooBlank, (refl, room, many, refl))
           | inr few ↦ (let (word, r, is) = found few in from_decoded room few word r is)
         ]
       ]

@@ -43,8 +43,8 @@ module _ {m : Meaning} {code : Code} (checked : Checked m code) (cells : List Ce
 
     pub realised_ok : (r : Result ℕ RealiseRefusal) → Realised A s f w f_after w_after r → is_ok r ≡ true
     realised_ok (Ok d) realised = refl
-    realised_ok (Err WrongLength) realised = absurd (realised.0 lengths)
-    realised_ok (Err NoElement) realised = absurd (realised.1 elements)
+    realised_ok (Err WrongLength) realised = absurd (realised.1 lengths)
+    realised_ok (Err NoElement) realised = absurd (realised.2 elements)
 
     pub realised_locates : (d : ℕ) → Realised A s f w f_after w_after (Ok d) → Locates A code cells d f_after
     realised_locates d realised =

@@ -34,14 +34,17 @@ encode_number PartAlphabet = 26
 encode_number WrongLength = 25
 encode_number NoLetter = 22
 
--- The first that applies, in this order: the letters are a part of the elements only, a wrong
--- length, a number that is no letter.
+-- The first that applies, in this order: 26 where the letters are a part of the elements only, 25
+-- for a wrong length, 22 for a number that is no letter.
 abbrev pub EncodeRefused : Meaning → Code → List ℕ → List ℕ → EncodeRefusal → Type 0
-EncodeRefused m code letters buffer PartAlphabet = code.letters < m.arithmetic.size
+EncodeRefused m code letters buffer PartAlphabet =
+    (encode_number PartAlphabet ≡ 26) × (code.letters < m.arithmetic.size)
 EncodeRefused m code letters buffer WrongLength =
-    (m.arithmetic.size ≤ code.letters) × (EncodeLengths code letters buffer → ⊥)
+    (encode_number WrongLength ≡ 25)
+    × (m.arithmetic.size ≤ code.letters) × (EncodeLengths code letters buffer → ⊥)
 EncodeRefused m code letters buffer NoLetter =
-    (m.arithmetic.size ≤ code.letters) × EncodeLengths code letters buffer
+    (encode_number NoLetter ≡ 22)
+    × (m.arithmetic.size ≤ code.letters) × EncodeLengths code letters buffer
     × (AllBelow code.letters letters → ⊥)
 
 -- The only codeword that begins with the data.

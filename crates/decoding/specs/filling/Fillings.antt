@@ -6,9 +6,7 @@ use Rattle.algebra.specs.Meaning.{Arithmetic, Meaning}
 use Rattle.algebra.specs.Places.{failing}
 use Rattle.algebra.specs.Polynomial.{negate, evaluate, annihilator, quotient_linear, act, divide}
 use Rattle.algebra.specs.Theorems.{erased_letter}
-use Rattle.algebra.specs.Limits.{largest_rows}
 use Rattle.codes.specs.Code.{Code}
-use Rattle.codes.specs.Checked.{Checked}
 use Rattle.codes.specs.Cells.{blank_cell, blanks}
 use Rattle.codes.specs.Codeword.{Codeword, row_sum}
 use Rattle.codes.specs.Sums.{Lengths, syndromes}
@@ -58,25 +56,24 @@ pub record FillLengths (code : Code) (cells : List Cell) (sums word : List ℕ) 
   pub lengths : Lengths code cells sums
   pub a_letter_each : length word ≡ length code.locators
 
--- no more cells are blank than the code has rows, nor than a card may have
-pub record FewBlanks (code : Code) (cells : List Cell) : Type 0 where
-  pub rows : blanks cells ≤ code.rows
-  pub largest : blanks cells ≤ largest_rows
-
 abbrev pub fill_number : FillRefusal → ℕ
 fill_number WrongLength = 25
 fill_number TooBlank = 23
 
+-- The first that applies, in this order: 25 for a wrong length, 23 where more cells are blank than
+-- the code has rows.
 abbrev pub FillRefused : Code → List Cell → List ℕ → List ℕ → FillRefusal → Type 0
-FillRefused code cells sums word WrongLength = FillLengths code cells sums word → ⊥
+FillRefused code cells sums word WrongLength =
+    (fill_number WrongLength ≡ 25) × (FillLengths code cells sums word → ⊥)
 FillRefused code cells sums word TooBlank =
-    FillLengths code cells sums word × (FewBlanks code cells → ⊥)
+    (fill_number TooBlank ≡ 23) × FillLengths code cells sums word × (code.rows < blanks cells)
 
 -- The letters stand in the word, or a refusal is given in its case and the word is as it was.
 abbrev pub Filling : Meaning → Code → List Cell → List ℕ → List ℕ → List ℕ
     → Result (Unit {0}) FillRefusal → Type 0
 Filling m code cells sums before after (Ok done) =
-    FillLengths code cells sums before × FewBlanks code cells × (after ≡ filled m code cells sums)
+    FillLengths code cells sums before × (blanks cells ≤ code.rows)
+    × (after ≡ filled m code cells sums)
 Filling m code cells sums before after (Err refusal) =
     FillRefused code cells sums before refusal × (after ≡ before)
 
@@ -95,19 +92,19 @@ Agrees cells word =
 -- letters
 abbrev pub FillsOnly : Meaning → Code → Type 0
 FillsOnly m code =
-    Checked m code → (cells : List Cell) → length cells ≡ length code.locators
-    → blanks cells ≤ code.rows → (word : List ℕ) → Codeword m.arithmetic code word
-    → Agrees cells word → word ≡ filled m code cells (syndromes m.arithmetic code cells)
+    (cells : List Cell) → length cells ≡ length code.locators → blanks cells ≤ code.rows
+    → (word : List ℕ) → Codeword m.arithmetic code word → Agrees cells word
+    → word ≡ filled m code cells (syndromes m.arithmetic code cells)
 
 -- with as many blanks as rows and noted letters that are elements, all sums of the filled word are
 -- 0
 abbrev pub FillsToZero : Meaning → Code → Type 0
 FillsToZero m code =
-    Checked m code → (cells : List Cell) → length cells ≡ length code.locators
-    → blanks cells ≡ code.rows → Lettered m.arithmetic.size cells → (k : ℕ) → k < code.rows
+    (cells : List Cell) → length cells ≡ length code.locators → blanks cells ≡ code.rows
+    → Lettered m.arithmetic.size cells → (k : ℕ) → k < code.rows
     → row_sum m.arithmetic code (filled m code cells (syndromes m.arithmetic code cells)) k ≡ 0
 
--- the two laws of filling
+-- the two laws of filling, over a checked code
 pub record FillingLaws (m : Meaning) (code : Code) : Type 0 where
   pub only : FillsOnly m code
   pub zeros : FillsToZero m code

@@ -35,9 +35,14 @@ pub record Near (A : Arithmetic) (code : Code) (cells : List Cell) (word : List 
   pub codeword : Codeword A code word
   pub close : 2 * wrong cells word + blanks cells ≤ reach code
 
+abbrev pub read_number : ReadRefusal → ℕ
+read_number WrongLength = 25
+read_number TooBlank = 23
+read_number Lost = 24
+
 -- The near codeword is shown with its two counts, and it is the only one; or the read is refused,
--- in this order: the buffer has another length than the word, more cells are blank than the reach,
--- no codeword is near. A refused read leaves the buffer as it was.
+-- in this order: 25 where the buffer has another length than the word, 23 where more cells are
+-- blank than the reach, 24 where no codeword is near. A refused read leaves the buffer as it was.
 abbrev pub Reading : Arithmetic → Code → List Cell → List ℕ → List ℕ
     → Result Counts ReadRefusal → Type 0
 Reading A code cells before after (Ok counts) =
@@ -45,11 +50,13 @@ Reading A code cells before after (Ok counts) =
     × ((word : List ℕ) → Near A code cells word → word ≡ after)
     × (counts.wrong ≡ wrong cells after) × (counts.blank ≡ blanks cells)
 Reading A code cells before after (Err WrongLength) =
-    (length before ≢ length code.locators) × (after ≡ before)
+    (read_number WrongLength ≡ 25) × (length before ≢ length code.locators) × (after ≡ before)
 Reading A code cells before after (Err TooBlank) =
-    (length before ≡ length code.locators) × (reach code < blanks cells) × (after ≡ before)
+    (read_number TooBlank ≡ 23)
+    × (length before ≡ length code.locators) × (reach code < blanks cells) × (after ≡ before)
 Reading A code cells before after (Err Lost) =
-    (length before ≡ length code.locators) × (blanks cells ≤ reach code)
+    (read_number Lost ≡ 24)
+    × (length before ≡ length code.locators) × (blanks cells ≤ reach code)
     × ((word : List ℕ) → Near A code cells word → ⊥) × (after ≡ before)
 
 -- whatever the cells and the buffer, exactly one outcome of a read meets this: an answer and what
@@ -64,8 +71,3 @@ OneReading =
     × ((other_after : List ℕ) (other : Result Counts ReadRefusal)
     → Reading m.arithmetic code cells before other_after other
     → (other_after ≡ after) × (other ≡ answer))
-
-abbrev pub read_number : ReadRefusal → ℕ
-read_number WrongLength = 25
-read_number TooBlank = 23
-read_number Lost = 24

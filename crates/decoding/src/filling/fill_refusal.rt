@@ -7,11 +7,11 @@ use thiserror::Error;
 /// Why cells are not filled.
 #[derive(Clone, Copy, PartialEq, Eq, Debug, Error)]
 pub enum FillRefusal {
-    /// The cells, the multipliers or the buffer are not as many as the locators, or there is not a
-    /// sum for each row.
+    /// The cells or the buffer are not as many as the card's cells, or there is not a sum for each
+    /// row.
     #[error("wrong length")]
     WrongLength = 25,
-    /// More cells are blank than the code has rows, or more than 64.
+    /// More cells are blank than the card has rows.
     #[error("too blank")]
     TooBlank = 23,
 }

@@ -11,8 +11,14 @@ pub write_letters-requires-clause-few : goal.write_letters-requires-clause-few
 write_letters-requires-clause-few g c =
     let code = code_of c.over-over.result.code in
     let count = ap blanks (c.as_slice-cells.ensures.value ∙ c.data_cells-cells.ensures) ∙ blanks_data_cells code c.args.data.now in
+    omega arith
+
+pub write_letters-requires-clause-largest : goal.write_letters-requires-clause-largest
+write_letters-requires-clause-largest g c =
+    let code = code_of c.over-over.result.code in
+    let count = ap blanks (c.as_slice-cells.ensures.value ∙ c.data_cells-cells.ensures) ∙ blanks_data_cells code c.args.data.now in
     let rows = ap (λ (x : Code). x.rows) c.over-over.ensures.values in
-    record { rows = omega arith; largest = omega (arith, c.args.card.now.checked.shape.sizes.most_rows) }
+    omega (arith, c.args.card.now.checked.shape.sizes.most_rows)
 
 pub returns : goal.returns
 unfolding encoding

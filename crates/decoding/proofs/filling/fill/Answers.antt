@@ -1,13 +1,12 @@
-use Rattle.std.proofs.Common.{rules}
-use Rattle.codes.specs.Code.{code_of}
+use Rattle.codes.specs.Cards.{card_code}
 use Rattle.decoding.proofs.filling_lemmas.FilledWords.{filling_laws}
 use Rattle.decoding.proofs.filling.fill.Goals as goal
 
-pub returns-then-code-n : goal.returns-then-code-n
-returns-then-code-n g c = record { outcome = search rules; laws = filling_laws _ (code_of c.args.over.code) }
+pub returns-then-cells-n-clause-laws : goal.returns-then-cells-n-clause-laws
+returns-then-cells-n-clause-laws g c = let card = c.args.card.now in filling_laws _ (card_code card) card.checked
 
-pub returns-then-blanks-code : goal.returns-then-blanks-code
-returns-then-blanks-code g c = record { outcome = search rules; laws = filling_laws _ (code_of c.args.over.code) }
+pub returns-then-count_blanks-rows-clause-laws : goal.returns-then-count_blanks-rows-clause-laws
+returns-then-count_blanks-rows-clause-laws g c = let card = c.args.card.now in filling_laws _ (card_code card) card.checked
 
-pub returns : goal.returns
-returns g c = record { outcome = search rules; laws = filling_laws _ (code_of c.args.over.code) }
+pub returns-clause-laws : goal.returns-clause-laws
+returns-clause-laws g c = let card = c.args.card.now in filling_laws _ (card_code card) card.checked

@@ -15,8 +15,8 @@ returns-then-contains c =
 
 pub returns-else-contains : goal.returns-else-contains
 returns-else-contains c = (
+  refl,
   λ l. let has = has_from_stands listed_primes _ l in
       let none = c.if-contains.ensures.cases has.0 0 zero-le has.1 in
       false≢true (sym none ∙ eq-eqb _ _ (has.2 0)),
-  refl,
 )
