@@ -1,4 +1,4 @@
-pub mod Buffers
 pub mod Journals
+pub mod Rooms
 pub mod Scripts
 pub mod Staying

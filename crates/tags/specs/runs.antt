@@ -1,3 +1,5 @@
 pub mod Calls
+pub mod Rooms
 pub mod Runs
+pub mod Plays
 pub mod Scripts

@@ -5,8 +5,6 @@ mod marks;
 mod runs;
 mod tag;
 
-pub use marks::{LineRefusal, count_marks, read_line, read_mark};
-pub use runs::{
-    BUFFER, Call, Event, Played, Script, UNPLAYED, UNTOUCHED, Worker, play_script, work_tag,
-};
+pub use marks::{LineRefusal, MarkRefusal, count_marks, read_line, read_mark};
+pub use runs::{Call, Ending, Event, Played, Script, UNPLAYED, Worker, play_script, work_tag};
 pub use tag::{NoteRefusal, Tag, WipeRefusal};

@@ -3,4 +3,4 @@ mod line;
 mod mark;
 
 pub use line::{LineRefusal, count_marks, read_line};
-pub use mark::read_mark;
+pub use mark::{MarkRefusal, read_mark};

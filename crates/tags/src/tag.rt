@@ -8,7 +8,7 @@ ghost use Rattle.std.specs.Str.{chars};
 ghost use Rattle.algebra.specs.Limits.{largest_cells};
 ghost use Rattle.codes.specs.Standings.{Lettered};
 ghost use Rattle.codes.specs.Cards.{card_code};
-ghost use Rattle.decoding.specs.reading.Reading.{Reading};
+ghost use Rattle.decoding.specs.reading.Reading.{OneReading, Reading};
 ghost use Rattle.tags.specs.marks.Lines.{LineRead, line_number};
 ghost use Rattle.tags.specs.tag.Sheet.{blank_sheet, place_in, refusal_of_note, refusal_of_wipe, refusal_of_line, after_note, after_wipe, after_line, refused};
 
@@ -113,8 +113,10 @@ impl<'a, F: LetteredField> Tag<'a, F> {
     /// where more cells are blank than the card has rows, then 24 where no codeword is near. The
     /// buffer is then as it was.
     pub fn read(&self, word: &mut [u32]) -> Result<Counts, ReadRefusal>
-        ensures { Reading (tag_arithmetic self.now) (tag_code self.now) (tag_cells self.now)
-            word.old word.new result }
+        ensures reading { Reading (tag_arithmetic self.now) (tag_code self.now)
+            (tag_cells self.now) word.old word.new result }
+        // No other answer and no other content of the buffer meets it.
+        ensures one { OneReading }
     {
         read_cells(self.card, self.cells(), word)
     }

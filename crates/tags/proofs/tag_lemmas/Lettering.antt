@@ -57,6 +57,6 @@ lettered_marked letters marks cells m j h = below_of letters (cell_of_mark (get_
 -- a line leaves such cells, accepted or refused
 pub lettered_line : (letters : ℕ) (marks : List ℕ) (before after : List Cell) (r : Result (Unit {0}) LineRefusal) → LineRead letters marks before after r → ∥ Lettered letters before ∥₁ → ∥ Lettered letters after ∥₁
 lettered_line letters marks before after (Ok done) read old = ∣ lettered_marked letters marks after read.2 ∣₁
-lettered_line letters marks before after (Err WrongLength) read old = subst (λ (cells : List Cell). ∥ Lettered letters cells ∥₁) (sym read.1) old
-lettered_line letters marks before after (Err UnmarkedAlphabet) read old = subst (λ (cells : List Cell). ∥ Lettered letters cells ∥₁) (sym read.2) old
-lettered_line letters marks before after (Err (BadMark place)) read old = subst (λ (cells : List Cell). ∥ Lettered letters cells ∥₁) (sym read.3) old
+lettered_line letters marks before after (Err WrongLength) read old = subst (λ (cells : List Cell). ∥ Lettered letters cells ∥₁) (sym read.2) old
+lettered_line letters marks before after (Err UnmarkedAlphabet) read old = subst (λ (cells : List Cell). ∥ Lettered letters cells ∥₁) (sym read.3) old
+lettered_line letters marks before after (Err (BadMark place)) read old = subst (λ (cells : List Cell). ∥ Lettered letters cells ∥₁) (sym read.4) old

@@ -78,8 +78,8 @@ module _ (code : Code) (marks : List ℕ) (before after : List Cell) (long : len
       let all = marked_list code.letters marks after read.2.long read.2.each in
       answered (Ok done) after (sym (cond-true _ _ _ (eq-eqb _ _ (read.0 ∙ long)) ∙ cond-true _ _ _ (and_from _ _ (le-leb _ _ read.1) all.0))) refl all.1
   line_answered (Err WrongLength) read =
-      answered (Err WrongLength) _ (sym (cond-false _ _ _ (ne_eqb _ _ (λ e. read.0 (e ∙ sym long))))) read.1 refl
+      answered (Err WrongLength) _ (sym (cond-false _ _ _ (ne_eqb _ _ (λ e. read.1 (e ∙ sym long))))) read.2 refl
   line_answered (Err UnmarkedAlphabet) read =
-      answered (Err UnmarkedAlphabet) _ (sym (cond-true _ _ _ (eq-eqb _ _ (read.0 ∙ long)) ∙ cond-false _ _ _ (and_left _ _ (lt-leb _ _ read.1)))) read.2 refl
+      answered (Err UnmarkedAlphabet) _ (sym (cond-true _ _ _ (eq-eqb _ _ (read.1 ∙ long)) ∙ cond-false _ _ _ (and_left _ _ (lt-leb _ _ read.2)))) read.3 refl
   line_answered (Err (BadMark place)) read =
-      answered (Err (BadMark place)) _ (sym (cond-true _ _ _ (eq-eqb _ _ (read.0 ∙ long)) ∙ cond-false _ _ _ (and_right _ _ (a_bad_mark code.letters marks place read.2.0 read.2.1)))) read.3 refl
+      answered (Err (BadMark place)) _ (sym (cond-true _ _ _ (eq-eqb _ _ (read.1 ∙ long)) ∙ cond-false _ _ _ (and_right _ _ (a_bad_mark code.letters marks place read.3.0 read.3.1)))) read.4 refl

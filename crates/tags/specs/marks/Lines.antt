@@ -45,9 +45,10 @@ abbrev pub LineRead : ℕ → List ℕ → List Cell → List Cell → Result (U
 LineRead letters marks before after (Ok done) =
     (length marks ≡ length before) × (letters ≤ marked_letters) × Marked letters marks after
 LineRead letters marks before after (Err WrongLength) =
-    (length marks ≢ length before) × (after ≡ before)
+    (line_number WrongLength ≡ 25) × (length marks ≢ length before) × (after ≡ before)
 LineRead letters marks before after (Err UnmarkedAlphabet) =
-    (length marks ≡ length before) × (marked_letters < letters) × (after ≡ before)
+    (line_number UnmarkedAlphabet ≡ 28) × (length marks ≡ length before)
+    × (marked_letters < letters) × (after ≡ before)
 LineRead letters marks before after (Err (BadMark place)) =
-    (length marks ≡ length before) × (letters ≤ marked_letters)
-    × FirstBad letters marks (Some place) × (after ≡ before)
+    (line_number (BadMark place) ≡ 28) × (length marks ≡ length before)
+    × (letters ≤ marked_letters) × FirstBad letters marks (Some place) × (after ≡ before)

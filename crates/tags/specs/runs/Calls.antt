@@ -1,5 +1,5 @@
 -- The calls of a run, and the sheet that they make.
-use Rattle.std.specs.Prelude.{List, fold}
+use Rattle.std.specs.Prelude.{List, length, fold}
 use Rattle.std.specs.Str.{chars}
 use Rattle.codes.specs.Code.{Code}
 use Rattle.codes.specs.declared.cell.Cell.{Cell}
@@ -25,4 +25,4 @@ abbrev pub call_of : Event → Call
 call_of (event.Note cell letter answer) = Note cell letter
 call_of (event.Wipe cell answer) = Wipe cell
 call_of (event.Line text answer) = Line text
-call_of (event.Read length answer buffer) = Read length
+call_of (event.Read answer shown) = Read (length shown.now)

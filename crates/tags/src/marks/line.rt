@@ -90,5 +90,7 @@ fn write_marks(line: &str, letters: u32, cells: &mut [Cell])
 fn marked(mark: char, letters: u32) -> Option<Cell>
     ensures { result ≡ marked_cell letters mark }
 {
-    read_mark(mark).filter(|cell| cell.letter.is_none_or(|letter| letter < letters))
+    read_mark(mark)
+        .ok()
+        .filter(|cell| cell.letter.is_none_or(|letter| letter < letters))
 }

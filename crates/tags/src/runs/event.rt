@@ -1,14 +1,7 @@
 // The events of a run: each call with its answer.
 use crate::marks::LineRefusal;
 use crate::tag::{NoteRefusal, WipeRefusal};
-use algebra::LARGEST_CELLS;
 use decoding::{Counts, ReadRefusal};
-
-/// One number more than the longest word has, so that a read can be lent too long a slice.
-pub const BUFFER: usize = LARGEST_CELLS + 1;
-
-/// What a fresh buffer holds. It is no letter of any alphabet, so it shows where a read wrote.
-pub const UNTOUCHED: u32 = 0xffff_ffff;
 
 /// What fills the places of a journal before it is played. A play overwrites each place that it
 /// uses.
@@ -33,11 +26,9 @@ pub enum Event<'a> {
         text: &'a str,
         answer: Result<(), LineRefusal>,
     },
-    /// The read was lent the first `length` numbers of a fresh buffer, and this is the whole buffer
-    /// after it, so that an event shows too what the read left alone.
+    /// A read was lent as many numbers as `shown` has, and `shown` is what they hold after it.
     Read {
-        length: usize,
         answer: Result<Counts, ReadRefusal>,
-        buffer: [u32; BUFFER],
+        shown: &'a [u32],
     },
 }

@@ -4,6 +4,6 @@ use crate::runs::call::Call;
 /// A worker whose calls are known beforehand: it makes them one after another, and stops after the
 /// last.
 #[derive(Clone, Copy)]
-pub struct Script<'a, 'b> {
-    pub calls: &'b [Call<'a>],
+pub struct Script<'text, 'calls> {
+    pub calls: &'calls [Call<'text>],
 }
