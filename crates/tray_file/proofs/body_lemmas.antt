@@ -5,5 +5,6 @@ pub mod CellNumbers
 pub mod SameNumbers
 pub mod SameCells
 pub mod OneCard
+pub mod EqualCards
 pub mod OneFault
-pub mod OneShape
+pub mod OneAnswer

@@ -5,5 +5,5 @@ pub mod CardBodies
 pub mod CardShapes
 pub mod CellBodies
 pub mod Notes
-pub mod SameCards
+pub mod OneReading
 pub mod CellRefusals

@@ -1,7 +1,9 @@
 pub mod RecordKinds
+pub mod FileLimits
 pub mod Turns
 pub mod Entries
 pub mod Headers
 pub mod Records
+pub mod Tasks
 pub mod Files
 pub mod Readers

@@ -11,10 +11,8 @@ mod shape_of_card;
 mod whole_lists;
 
 pub use card_body::read_card;
-pub(crate) use card_shape::CardShape;
-pub(crate) use cells_body::check_cells;
 pub use cells_body::read_cells;
+pub(crate) use cells_body::{CellList, list_cells};
 pub use cells_refusal::CellsRefusal;
 pub use limits::LONGEST_NOTE;
 pub(crate) use note_body::is_plain;
-pub(crate) use shape_of_card::shape_of_any;

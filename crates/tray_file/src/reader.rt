@@ -5,35 +5,47 @@ mod limits;
 mod record;
 mod record_reading;
 mod turn;
+mod whole_file;
 
-ghost use Rattle.std.specs.Prelude.{◌≡◌};
-ghost use Rattle.tray_file.specs.reader.Readers.{Opened, Next, EveryRun, RecordReadsBack};
-ghost use Rattle.tray_file.specs.reader.Files.{OneFile};
+ghost use Rattle.std.specs.Prelude.{◌≡◌, ◌≤◌, None, length};
+ghost use Rattle.tray_file.specs.reader.FileLimits.{longest_file};
 
+use crate::body::CellList;
 use crate::fault::{Fault, FileCause, file_fault};
 use crate::reader::record_reading::{part, read_record};
 use crate::reader::turn::Turn;
+use codes::{AnyCard, Cell};
 pub use kind::{Kind, NoSuchKind};
 pub use limits::LONGEST_FILE;
 pub use record::Record;
 use record::record_of;
+use std::mem;
+pub use whole_file::check_file;
 
-/// A reader over a file's bytes, which answers one record after another. The bytes may be any.
-#[derive(Clone, Copy)]
+/// A reader over a file's bytes, which answers one record after another. The bytes may be any. It
+/// keeps the last card that it read, and the cells of the last cells record.
+#[derive(Drop)]
 pub struct TrayReader<'a> {
     file: &'a [u8],
     // Where the next record begins, and what is in turn there.
     place: usize,
     turn: Turn,
+    cells: CellList,
     // The fault that ended the reading.
     fault: Option<Fault>,
+    // A file that is too long has its fault from the start.
+    ghost short: { fault ≡ None → length file.now ≤ longest_file },
 }
 
 impl<'a> TrayReader<'a> {
+    ghost use Rattle.tray_file.specs.reader.Readers.{Opened, Next, EveryRun, AnswersEnd, RecordReadsBack};
+    ghost use Rattle.tray_file.specs.reader.Turns.{last_card, lent_card};
+    ghost use Rattle.tray_file.specs.reader.Files.{OneFile};
+
     /// A reader at the file's first byte. A file of more than 60,000 bytes has its fault, 37, at
     /// once.
     pub fn new(file: &'a [u8]) -> TrayReader<'a>
-        ensures { Opened file.now result }
+        ensures { Opened file.entry result }
     {
         let too_long = file_fault(0, FileCause::LongFile);
         let fault = (file.len() > LONGEST_FILE).then_some(too_long);
@@ -41,6 +53,7 @@ impl<'a> TrayReader<'a> {
             file,
             place: 0,
             turn: Turn::Start,
+            cells: CellList::new(),
             fault,
         }
     }
@@ -52,11 +65,27 @@ impl<'a> TrayReader<'a> {
         self.place
     }
 
+    /// The last card that was read, or nothing before the first.
+    pub fn card(&self) -> Option<&AnyCard>
+        ensures { lent_card result ≡ last_card self.now.turn }
+    {
+        self.turn.card()
+    }
+
+    /// The cells of the last cells record that was read, under the card that was then the last;
+    /// none before the first.
+    pub fn cells(&self) -> &[Cell]
+        ensures { result.now ≡ self.now.cells.items }
+    {
+        self.cells.as_slice()
+    }
+
     /// The next record, nothing at the file's end, or a fault, which is repeated ever after. No
     /// `Iterator`: a fault has no end, and the place is asked for between two records.
     pub fn next(&mut self) -> Option<Result<Record<'a>, Fault>>
         ensures step { Next self.old result self.new }
         ensures runs { EveryRun }
+        ensures ends { AnswersEnd }
         ensures back { RecordReadsBack }
         ensures one { OneFile }
     {
@@ -66,11 +95,11 @@ impl<'a> TrayReader<'a> {
         if self.place >= self.file.len() {
             return None;
         }
-        match read_record(self.file, self.place, self.turn) {
+        match read_record(self.file, self.place, &self.turn, &mut self.cells) {
             Ok(step) => {
                 let body = part(self.file, step.body, step.end);
                 self.place = step.end;
-                self.turn = step.turn;
+                self.turn = mem::replace(&mut self.turn, Turn::Start).after(step.passed);
                 Some(Ok(record_of(step.kind, body)))
             }
             Err(fault) => {

@@ -1,5 +1,5 @@
 -- A card's values against the body that they stand in.
-use Rattle.std.proofs.Common.{◌≡◌, ℕ, ◌+◌, List, ◌∷◌, ◌++◌, length, drop, sym, ap, ◌∙◌, subst, subst₂}
+use Rattle.std.proofs.Common.{◌≡◌, ℕ, ◌+◌, List, ◌∷◌, ◌++◌, length, drop, sym, refl, ap, ◌∙◌, subst, subst₂}
 use Rattle.algebra.specs.Meaning.{Meaning}
 use Rattle.algebra.specs.Alphabet.{Alphabet}
 use Rattle.codes.specs.Code.{Code}
@@ -35,8 +35,8 @@ module _ (head : CardHead) (body : List ℕ) (begins : Begins (head_numbers head
       by_fault fault (subst (λ n. ListRefused n (head.cells + head.cells) (drop n body) fault) is refused)
     where
       by_fault : (f : BodyFault) → ListRefused (length (numbers (head_numbers head))) (head.cells + head.cells) (after (head_numbers head) body) f → ValuesRefused m head body f
-      by_fault (BadNumber place) no-list = (fits, no-list)
-      by_fault BadBody no-list = (fits, no-list)
+      by_fault (BadNumber place) no-list = (refl, fits, no-list)
+      by_fault BadBody no-list = (refl, fits, no-list)
       by_fault BadNote never = never
       by_fault (Field f) never = never
       by_fault (Card cause) never = absurd never
@@ -44,15 +44,17 @@ module _ (head : CardHead) (body : List ℕ) (begins : Begins (head_numbers head
 
   -- values that break a rule of cards
   pub values_refused : (m : Meaning) (code : Code) (cause : CardCause) → Values m head body code → CardRefused m code cause → ValuesRefused m head body (Card cause)
-  values_refused m code BadShape values no-shape =
-      λ shape. no-shape (record {
-        sizes = subst₂ (λ (n k : ℕ). Sizes n k) (sym values.locators) (sym values.rows) shape;
-        a_multiplier_each = values.multipliers ∙ sym values.locators;
-      })
-  values_refused m code NoAlphabet values (shape, no-alphabet) =
+  values_refused m code BadShape values (number, no-shape) = (
+    refl,
+    λ shape. no-shape (record {
+      sizes = subst₂ (λ (n k : ℕ). Sizes n k) (sym values.locators) (sym values.rows) shape;
+      a_multiplier_each = values.multipliers ∙ sym values.locators;
+    }),
+  )
+  values_refused m code NoAlphabet values (number, shape, no-alphabet) =
       absurd (no-alphabet (subst (λ n. Alphabet m.arithmetic n) (sym values.letters) values.fits.alphabet))
-  values_refused m code BadLocator values (shape, alphabet, bad) = (code, values, bad)
-  values_refused m code BadMultiplier values (shape, alphabet, locators, bad) = (code, values, locators, bad)
+  values_refused m code BadLocator values (number, shape, alphabet, bad) = (refl, code, values, bad)
+  values_refused m code BadMultiplier values (number, shape, alphabet, locators, bad) = (refl, code, values, locators, bad)
 
 -- the values of a head with two lists
 module _ (m : Meaning) (head : CardHead) (body : List ℕ) (begins : Begins (head_numbers head) body) (end : ℕ)

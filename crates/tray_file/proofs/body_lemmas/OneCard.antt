@@ -1,5 +1,5 @@
--- A card's body is read as that card only.
-use Rattle.std.proofs.Common.{◌≡◌, ℕ, ◌+◌, ◌≤◌, ◌⊎◌, List, ◌++◌, length, get_or, take, drop, Ok, Err, sym, refl, ap, ◌∙◌, subst, ap₂, subst₂, ⊎_elim, arith}
+-- Two cards with one body have the same values, and the body is not refused.
+use Rattle.std.proofs.Common.{◌≡◌, ℕ, ◌+◌, ◌≤◌, ◌⊎◌, List, ◌++◌, length, get_or, take, drop, Err, sym, refl, ap, ◌∙◌, subst, ap₂, subst₂, ⊎_elim, arith}
 use Rattle.std.proofs.lemmas.List.{length-append, take_at, drop_at}
 use Rattle.algebra.specs.Meaning.{Meaning, with_inverses}
 use Rattle.algebra.specs.Alphabet.{Alphabet}
@@ -33,7 +33,6 @@ use Rattle.tray_file.specs.body.NumberLists.{numbers, Small, after, Begins}
 use Rattle.tray_file.specs.body.WholeLists.{Are}
 use Rattle.tray_file.specs.body.CardHeads.{head_count, head_numbers, HeadShape, PrimeHead, BinaryHead}
 use Rattle.tray_file.specs.body.CardBodies.{card_body, ValuesRefused, HeadRefused, RestRefused, PrimeCardIn, BinaryCardIn, CardIn, CardRead}
-use Rattle.tray_file.specs.body.SameCards.{CardReadsBack}
 use Rattle.tray_file.proofs.body_lemmas.NumberLists.{numbers_append, small_append, small_below}
 use Rattle.tray_file.proofs.body_lemmas.SameNumbers.{begins_of, are_begins, same_list, missing_never, list_never}
 
@@ -110,13 +109,13 @@ module _ (m : Meaning) (kind origin : ℕ) (code : Code) (body : List ℕ) (kind
     where
       by_fault : (f : BodyFault) → ValuesRefused m other body f → other.letters ≡ code.letters → HeadShape other → Are lists (after (head_numbers other) body) →
           length lists ≡ other.cells + other.cells → ⊥
-      by_fault (BadNumber place) broken letters fits are count = list_never (length (numbers (head_numbers other))) (other.cells + other.cells) lists (after (head_numbers other) body) (BadNumber place) are count broken.1
-      by_fault BadBody broken letters fits are count = list_never (length (numbers (head_numbers other))) (other.cells + other.cells) lists (after (head_numbers other) body) BadBody are count broken.1
-      by_fault (Card BadShape) broken letters fits are count = broken fits
-      by_fault (Card NoAlphabet) broken letters fits are count = broken.1 (subst (λ n. Alphabet m.arithmetic n) (sym letters) checked.alphabet)
-      by_fault (Card BadLocator) (found, values, bad) letters fits are count =
+      by_fault (BadNumber place) broken letters fits are count = list_never (length (numbers (head_numbers other))) (other.cells + other.cells) lists (after (head_numbers other) body) (BadNumber place) are count broken.2
+      by_fault BadBody broken letters fits are count = list_never (length (numbers (head_numbers other))) (other.cells + other.cells) lists (after (head_numbers other) body) BadBody are count broken.2
+      by_fault (Card BadShape) broken letters fits are count = broken.1 fits
+      by_fault (Card NoAlphabet) broken letters fits are count = broken.2 (subst (λ n. Alphabet m.arithmetic n) (sym letters) checked.alphabet)
+      by_fault (Card BadLocator) (number, found, values, bad) letters fits are count =
           bad (subst (LocatorsFit m) (sym (same_lists other also found.locators found.multipliers values.lists values.locators values.multipliers).0) checked.locators)
-      by_fault (Card BadMultiplier) (found, values, good, bad) letters fits are count =
+      by_fault (Card BadMultiplier) (number, found, values, good, bad) letters fits are count =
           bad (subst (MultipliersFit m) (sym (same_lists other also found.locators found.multipliers values.lists values.locators values.multipliers).1) checked.multipliers)
       by_fault BadNote broken letters fits are count = broken
       by_fault (Field cause) broken letters fits are count = broken
@@ -168,11 +167,11 @@ module _ (body : List ℕ) (card : cards.Card PrimeField prime_field.ghosts) (is
       (ap (λ (l : List ℕ). get_or l 0 0) same, ap (λ (l : List ℕ). get_or l 1 0) same)
 
   prime_head_never : (fault : BodyFault) → HeadRefused body fault → ⊥
-  prime_head_never (BadNumber place) broken = missing_never 0 head_count _ body (BadNumber place) prime_begins (omega arith) broken
-  prime_head_never BadBody broken = missing_never 0 head_count _ body BadBody prime_begins (omega arith) broken
-  prime_head_never (Field NoSuchField) (other, stood, not-prime, not-binary) = not-prime (prime_heads other stood).0
-  prime_head_never (Field (Made NoPrime)) (other, stood, kind, not_listed) = not_listed (subst Listed (sym (prime_heads other stood).1) card.field.listed)
-  prime_head_never (Field (Made BadModulus)) (other, stood, kind, none) = never_kinds other.kind (prime_heads other stood).0 kind
+  prime_head_never (BadNumber place) broken = missing_never 0 head_count _ body (BadNumber place) prime_begins (omega arith) broken.1
+  prime_head_never BadBody broken = missing_never 0 head_count _ body BadBody prime_begins (omega arith) broken.1
+  prime_head_never (Field NoSuchField) (number, other, stood, not-prime, not-binary) = not-prime (prime_heads other stood).0
+  prime_head_never (Field (Made NoPrime)) (number, other, stood, kind, not_listed) = not_listed (subst Listed (sym (prime_heads other stood).1) card.field.listed)
+  prime_head_never (Field (Made BadModulus)) (number, other, stood, kind, none) = never_kinds other.kind (prime_heads other stood).0 kind
   prime_head_never BadNote broken = broken
   prime_head_never (Card cause) broken = broken
   prime_head_never (Tag cause) broken = broken
@@ -211,11 +210,11 @@ module _ (body : List ℕ) (card : cards.Card BinaryField binary_field.ghosts) (
       (ap (λ (l : List ℕ). get_or l 0 0) same, ap (λ (l : List ℕ). get_or l 1 0) same)
 
   binary_head_never : (fault : BodyFault) → HeadRefused body fault → ⊥
-  binary_head_never (BadNumber place) broken = missing_never 0 head_count _ body (BadNumber place) binary_begins (omega arith) broken
-  binary_head_never BadBody broken = missing_never 0 head_count _ body BadBody binary_begins (omega arith) broken
-  binary_head_never (Field NoSuchField) (other, stood, not-prime, not-binary) = not-binary (binary_heads other stood).0
-  binary_head_never (Field (Made NoPrime)) (other, stood, kind, not_listed) = never_kinds other.kind kind (binary_heads other stood).0
-  binary_head_never (Field (Made BadModulus)) (other, stood, kind, none) =
+  binary_head_never (BadNumber place) broken = missing_never 0 head_count _ body (BadNumber place) binary_begins (omega arith) broken.1
+  binary_head_never BadBody broken = missing_never 0 head_count _ body BadBody binary_begins (omega arith) broken.1
+  binary_head_never (Field NoSuchField) (number, other, stood, not-prime, not-binary) = not-binary (binary_heads other stood).0
+  binary_head_never (Field (Made NoPrime)) (number, other, stood, kind, not_listed) = never_kinds other.kind kind (binary_heads other stood).0
+  binary_head_never (Field (Made BadModulus)) (number, other, stood, kind, none) =
       no_modulus card.field.modulus card.field.degree (subst NoModulus (binary_heads other stood).1 none) modulus_is
   binary_head_never BadNote broken = broken
   binary_head_never (Card cause) broken = broken
@@ -242,33 +241,32 @@ pub card_never : (body : List ℕ) (card : AnyCard) (fault : BodyFault) → Card
 card_never body (Prime card) fault is refused = prime_never body card is fault refused
 card_never body (Binary card) fault is refused = binary_never body card is fault refused
 
-pub card_reads_back : CardReadsBack
-card_reads_back body (Prime card) (Ok (Prime found)) is read = (
-  Prime found,
-  refl,
-  (
-    sym (one_origin body (prime_meaning card.field) (prime_meaning found.field) prime_kind card.field.prime prime_kind found.field.prime (card_code card) (card_code found)
-        (omega arith) (prime_origin body card is) (omega arith) (prime_origin body found read) is.checked is.written read.checked read.written),
-    one_code body (prime_meaning card.field) (prime_meaning found.field) prime_kind card.field.prime prime_kind found.field.prime (card_code card) (card_code found)
-        (omega arith) (prime_origin body card is) (omega arith) (prime_origin body found read) is.checked is.written read.checked read.written,
-  ),
+-- cards over the same field with the same values
+abbrev pub SameCard : AnyCard → AnyCard → Type 0
+SameCard (Prime a) (Prime b) = (a.field.prime ≡ b.field.prime) × (card_code a ≡ card_code b)
+SameCard (Binary a) (Binary b) = (a.field.modulus ≡ b.field.modulus) × (card_code a ≡ card_code b)
+SameCard (Prime a) (Binary b) = ⊥
+SameCard (Binary a) (Prime b) = ⊥
+
+-- two cards with one body are over the same field and have the same values
+pub same_cards : (body : List ℕ) (card found : AnyCard) → CardIn body card → CardIn body found → SameCard card found
+same_cards body (Prime card) (Prime found) is read = (
+  sym (one_origin body (prime_meaning card.field) (prime_meaning found.field) prime_kind card.field.prime prime_kind found.field.prime (card_code card) (card_code found)
+      (omega arith) (prime_origin body card is) (omega arith) (prime_origin body found read) is.checked is.written read.checked read.written),
+  one_code body (prime_meaning card.field) (prime_meaning found.field) prime_kind card.field.prime prime_kind found.field.prime (card_code card) (card_code found)
+      (omega arith) (prime_origin body card is) (omega arith) (prime_origin body found read) is.checked is.written read.checked read.written,
 )
-card_reads_back body (Prime card) (Ok (Binary found)) is read =
+same_cards body (Prime card) (Binary found) is read =
     let same = one_kind body (prime_meaning card.field) (binary_meaning found.field) prime_kind card.field.prime binary_kind found.field.modulus (card_code card) (card_code found)
     (omega arith) (prime_origin body card is) (omega arith) (binary_origin body found read) is.checked is.written read.checked read.written in
     absurd (omega arith)
-card_reads_back body (Binary card) (Ok (Prime found)) is read =
+same_cards body (Binary card) (Prime found) is read =
     let same = one_kind body (binary_meaning card.field) (prime_meaning found.field) binary_kind card.field.modulus prime_kind found.field.prime (card_code card) (card_code found)
     (omega arith) (binary_origin body card is) (omega arith) (prime_origin body found read) is.checked is.written read.checked read.written in
     absurd (omega arith)
-card_reads_back body (Binary card) (Ok (Binary found)) is read = (
-  Binary found,
-  refl,
-  (
-    sym (one_origin body (binary_meaning card.field) (binary_meaning found.field) binary_kind card.field.modulus binary_kind found.field.modulus (card_code card) (card_code found)
-        (omega arith) (binary_origin body card is) (omega arith) (binary_origin body found read) is.checked is.written read.checked read.written),
-    one_code body (binary_meaning card.field) (binary_meaning found.field) binary_kind card.field.modulus binary_kind found.field.modulus (card_code card) (card_code found)
-        (omega arith) (binary_origin body card is) (omega arith) (binary_origin body found read) is.checked is.written read.checked read.written,
-  ),
+same_cards body (Binary card) (Binary found) is read = (
+  sym (one_origin body (binary_meaning card.field) (binary_meaning found.field) binary_kind card.field.modulus binary_kind found.field.modulus (card_code card) (card_code found)
+      (omega arith) (binary_origin body card is) (omega arith) (binary_origin body found read) is.checked is.written read.checked read.written),
+  one_code body (binary_meaning card.field) (binary_meaning found.field) binary_kind card.field.modulus binary_kind found.field.modulus (card_code card) (card_code found)
+      (omega arith) (binary_origin body card is) (omega arith) (binary_origin body found read) is.checked is.written read.checked read.written,
 )
-card_reads_back body card (Err fault) is read = absurd (card_never body card fault is read)

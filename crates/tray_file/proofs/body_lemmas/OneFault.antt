@@ -97,9 +97,9 @@ missing_refused start wanted bytes (Tag cause) never = never
 -- cells that are not refused as a list are refused by a letter
 letters_or_list : (n letters : ℕ) (body : List ℕ) (f : BodyFault) → CellsRefused n letters body f →
     ListRefused 0 n body f ⊎ ((f ≡ Tag NoLetter) × NoLetters n letters body)
-letters_or_list n letters body (BadNumber place) refused = inl refused
-letters_or_list n letters body BadBody refused = inl refused
-letters_or_list n letters body (Tag NoLetter) bad = inr (refl, bad)
+letters_or_list n letters body (BadNumber place) refused = inl refused.1
+letters_or_list n letters body BadBody refused = inl refused.1
+letters_or_list n letters body (Tag NoLetter) bad = inr (refl, bad.1)
 letters_or_list n letters body BadNote never = absurd never
 letters_or_list n letters body (Field fault) never = absurd never
 letters_or_list n letters body (Card cause) never = absurd never
@@ -164,45 +164,45 @@ module _ (m : Meaning) (head : CardHead) (body : List ℕ) where
       (omega (arith, length-append code.locators code.multipliers, values.locators, values.multipliers)) refused
 
   no_shape_fault : (g : BodyFault) → (HeadShape head → ⊥) → ValuesRefused m head body g → g ≡ Card BadShape
-  no_shape_fault (BadNumber place) none refused = absurd (none refused.0.shape)
-  no_shape_fault BadBody none refused = absurd (none refused.0.shape)
+  no_shape_fault (BadNumber place) none refused = absurd (none refused.1.shape)
+  no_shape_fault BadBody none refused = absurd (none refused.1.shape)
   no_shape_fault (Card BadShape) none refused = refl
-  no_shape_fault (Card NoAlphabet) none refused = absurd (none refused.0)
-  no_shape_fault (Card BadLocator) none refused = absurd (none refused.1.fits.shape)
-  no_shape_fault (Card BadMultiplier) none refused = absurd (none refused.1.fits.shape)
+  no_shape_fault (Card NoAlphabet) none refused = absurd (none refused.1)
+  no_shape_fault (Card BadLocator) none refused = absurd (none refused.2.fits.shape)
+  no_shape_fault (Card BadMultiplier) none refused = absurd (none refused.2.fits.shape)
   no_shape_fault BadNote none never = absurd never
   no_shape_fault (Field fault) none never = absurd never
   no_shape_fault (Tag cause) none never = absurd never
 
   no_alphabet_fault : (g : BodyFault) → HeadShape head → (Alphabet m.arithmetic head.letters → ⊥) → ValuesRefused m head body g → g ≡ Card NoAlphabet
-  no_alphabet_fault (BadNumber place) shape none refused = absurd (none refused.0.alphabet)
-  no_alphabet_fault BadBody shape none refused = absurd (none refused.0.alphabet)
-  no_alphabet_fault (Card BadShape) shape none refused = absurd (refused shape)
+  no_alphabet_fault (BadNumber place) shape none refused = absurd (none refused.1.alphabet)
+  no_alphabet_fault BadBody shape none refused = absurd (none refused.1.alphabet)
+  no_alphabet_fault (Card BadShape) shape none refused = absurd (refused.1 shape)
   no_alphabet_fault (Card NoAlphabet) shape none refused = refl
-  no_alphabet_fault (Card BadLocator) shape none refused = absurd (none refused.1.fits.alphabet)
-  no_alphabet_fault (Card BadMultiplier) shape none refused = absurd (none refused.1.fits.alphabet)
+  no_alphabet_fault (Card BadLocator) shape none refused = absurd (none refused.2.fits.alphabet)
+  no_alphabet_fault (Card BadMultiplier) shape none refused = absurd (none refused.2.fits.alphabet)
   no_alphabet_fault BadNote shape none never = absurd never
   no_alphabet_fault (Field fault) shape none never = absurd never
   no_alphabet_fault (Tag cause) shape none never = absurd never
 
   no_list_fault : (f g : BodyFault) → HeadFits m head → ListRefused start wanted rest f → ValuesRefused m head body g → f ≡ g
-  no_list_fault f (BadNumber place) fits list refused = one_list_fault start wanted rest f (BadNumber place) list refused.1
-  no_list_fault f BadBody fits list refused = one_list_fault start wanted rest f BadBody list refused.1
-  no_list_fault f (Card BadShape) fits list refused = absurd (refused fits.shape)
-  no_list_fault f (Card NoAlphabet) fits list refused = absurd (refused.1 fits.alphabet)
-  no_list_fault f (Card BadLocator) fits list refused = absurd (values_list_never refused.0 f refused.1 list)
-  no_list_fault f (Card BadMultiplier) fits list refused = absurd (values_list_never refused.0 f refused.1 list)
+  no_list_fault f (BadNumber place) fits list refused = one_list_fault start wanted rest f (BadNumber place) list refused.2
+  no_list_fault f BadBody fits list refused = one_list_fault start wanted rest f BadBody list refused.2
+  no_list_fault f (Card BadShape) fits list refused = absurd (refused.1 fits.shape)
+  no_list_fault f (Card NoAlphabet) fits list refused = absurd (refused.2 fits.alphabet)
+  no_list_fault f (Card BadLocator) fits list refused = absurd (values_list_never refused.1 f refused.2 list)
+  no_list_fault f (Card BadMultiplier) fits list refused = absurd (values_list_never refused.1 f refused.2 list)
   no_list_fault f BadNote fits list never = absurd never
   no_list_fault f (Field fault) fits list never = absurd never
   no_list_fault f (Tag cause) fits list never = absurd never
 
   bad_locator_fault : (code : Code) (g : BodyFault) → Values m head body code → (LocatorsFit m code.locators → ⊥) → ValuesRefused m head body g → g ≡ Card BadLocator
-  bad_locator_fault code (BadNumber place) values bad refused = absurd (values_list_never code (BadNumber place) values refused.1)
-  bad_locator_fault code BadBody values bad refused = absurd (values_list_never code BadBody values refused.1)
-  bad_locator_fault code (Card BadShape) values bad refused = absurd (refused values.fits.shape)
-  bad_locator_fault code (Card NoAlphabet) values bad refused = absurd (refused.1 values.fits.alphabet)
+  bad_locator_fault code (BadNumber place) values bad refused = absurd (values_list_never code (BadNumber place) values refused.2)
+  bad_locator_fault code BadBody values bad refused = absurd (values_list_never code BadBody values refused.2)
+  bad_locator_fault code (Card BadShape) values bad refused = absurd (refused.1 values.fits.shape)
+  bad_locator_fault code (Card NoAlphabet) values bad refused = absurd (refused.2 values.fits.alphabet)
   bad_locator_fault code (Card BadLocator) values bad refused = refl
-  bad_locator_fault code (Card BadMultiplier) values bad (other, also, good, worse) =
+  bad_locator_fault code (Card BadMultiplier) values bad (number, other, also, good, worse) =
       absurd (bad (subst (λ (c : Code). LocatorsFit m c.locators) (one_values m head body code other values also) good))
   bad_locator_fault code BadNote values bad never = absurd never
   bad_locator_fault code (Field fault) values bad never = absurd never
@@ -210,11 +210,11 @@ module _ (m : Meaning) (head : CardHead) (body : List ℕ) where
 
   bad_multiplier_fault : (code : Code) (g : BodyFault) → Values m head body code → LocatorsFit m code.locators → ValuesRefused m head body g →
       (MultipliersFit m code.multipliers → ⊥) → g ≡ Card BadMultiplier
-  bad_multiplier_fault code (BadNumber place) values good refused bad = absurd (values_list_never code (BadNumber place) values refused.1)
-  bad_multiplier_fault code BadBody values good refused bad = absurd (values_list_never code BadBody values refused.1)
-  bad_multiplier_fault code (Card BadShape) values good refused bad = absurd (refused values.fits.shape)
-  bad_multiplier_fault code (Card NoAlphabet) values good refused bad = absurd (refused.1 values.fits.alphabet)
-  bad_multiplier_fault code (Card BadLocator) values good (other, also, worse) bad =
+  bad_multiplier_fault code (BadNumber place) values good refused bad = absurd (values_list_never code (BadNumber place) values refused.2)
+  bad_multiplier_fault code BadBody values good refused bad = absurd (values_list_never code BadBody values refused.2)
+  bad_multiplier_fault code (Card BadShape) values good refused bad = absurd (refused.1 values.fits.shape)
+  bad_multiplier_fault code (Card NoAlphabet) values good refused bad = absurd (refused.2 values.fits.alphabet)
+  bad_multiplier_fault code (Card BadLocator) values good (number, other, also, worse) bad =
       absurd (worse (subst (λ (c : Code). LocatorsFit m c.locators) (sym (one_values m head body code other values also)) good))
   bad_multiplier_fault code (Card BadMultiplier) values good refused bad = refl
   bad_multiplier_fault code BadNote values good never bad = absurd never
@@ -222,28 +222,28 @@ module _ (m : Meaning) (head : CardHead) (body : List ℕ) where
   bad_multiplier_fault code (Tag cause) values good never bad = absurd never
 
   one_values_fault : (f g : BodyFault) → ValuesRefused m head body f → ValuesRefused m head body g → f ≡ g
-  one_values_fault (BadNumber place) g refused also = no_list_fault (BadNumber place) g refused.0 refused.1 also
-  one_values_fault BadBody g refused also = no_list_fault BadBody g refused.0 refused.1 also
-  one_values_fault (Card BadShape) g refused also = sym (no_shape_fault g refused also)
-  one_values_fault (Card NoAlphabet) g refused also = sym (no_alphabet_fault g refused.0 refused.1 also)
-  one_values_fault (Card BadLocator) g (code, values, bad) also = sym (bad_locator_fault code g values bad also)
-  one_values_fault (Card BadMultiplier) g (code, values, good, bad) also = sym (bad_multiplier_fault code g values good also bad)
+  one_values_fault (BadNumber place) g refused also = no_list_fault (BadNumber place) g refused.1 refused.2 also
+  one_values_fault BadBody g refused also = no_list_fault BadBody g refused.1 refused.2 also
+  one_values_fault (Card BadShape) g refused also = sym (no_shape_fault g refused.1 also)
+  one_values_fault (Card NoAlphabet) g refused also = sym (no_alphabet_fault g refused.1 refused.2 also)
+  one_values_fault (Card BadLocator) g (number, code, values, bad) also = sym (bad_locator_fault code g values bad also)
+  one_values_fault (Card BadMultiplier) g (number, code, values, good, bad) also = sym (bad_multiplier_fault code g values good also bad)
   one_values_fault BadNote g never also = absurd never
   one_values_fault (Field fault) g never also = absurd never
   one_values_fault (Tag cause) g never also = absurd never
 
 -- where a head stands that names a field, the head is not refused
 head_never : (body : List ℕ) (head : CardHead) (m : Meaning) → Begins (head_numbers head) body → FieldOf head m → (f : BodyFault) → HeadRefused body f → ⊥
-head_never body head m begins named (BadNumber place) broken = missing_never 0 head_count (head_numbers head) body (BadNumber place) begins (omega arith) broken
-head_never body head m begins named BadBody broken = missing_never 0 head_count (head_numbers head) body BadBody begins (omega arith) broken
-head_never body head m begins named (Field NoSuchField) (other, stood, not-prime, not-binary) =
+head_never body head m begins named (BadNumber place) broken = missing_never 0 head_count (head_numbers head) body (BadNumber place) begins (omega arith) broken.1
+head_never body head m begins named BadBody broken = missing_never 0 head_count (head_numbers head) body BadBody begins (omega arith) broken.1
+head_never body head m begins named (Field NoSuchField) (number, other, stood, not-prime, not-binary) =
     let same = ap (λ (h : CardHead). h.kind) (one_head body head other begins stood) in
     ⊎_elim (λ (p : PrimeHead head m). not-prime (same ∙ p.kind)) (λ (p : BinaryHead head m). not-binary (same ∙ p.kind)) named
-head_never body head m begins named (Field (Made NoPrime)) (other, stood, kind, not_listed) =
+head_never body head m begins named (Field (Made NoPrime)) (number, other, stood, kind, not_listed) =
     let same = one_head body head other begins stood in
     ⊎_elim (λ (p : PrimeHead head m). not_listed (subst (λ (h : CardHead). Listed h.origin) (sym same) p.origin))
     (λ (p : BinaryHead head m). never_kinds other.kind kind (ap (λ (h : CardHead). h.kind) same ∙ p.kind)) named
-head_never body head m begins named (Field (Made BadModulus)) (other, stood, kind, none) =
+head_never body head m begins named (Field (Made BadModulus)) (number, other, stood, kind, none) =
     let same = one_head body head other begins stood in
     ⊎_elim (λ (p : PrimeHead head m). never_kinds other.kind (ap (λ (h : CardHead). h.kind) same ∙ p.kind) kind)
     (λ (p : BinaryHead head m). no_modulus head.origin p.degree (subst (λ (h : CardHead). NoModulus h.origin) same none) p.origin) named
@@ -259,12 +259,12 @@ record NoFieldNamed (body : List ℕ) (f : BodyFault) : Type 0 where
       ⊎ (((f ≡ Field (Made NoPrime)) × (head.kind ≡ prime_kind)) ⊎ ((f ≡ Field (Made BadModulus)) × (head.kind ≡ binary_kind)))
 
 missing_or_unnamed : (body : List ℕ) (f : BodyFault) → HeadRefused body f → NumberMissing 0 head_count body f ⊎ NoFieldNamed body f
-missing_or_unnamed body (BadNumber place) missing = inl missing
-missing_or_unnamed body BadBody missing = inl missing
-missing_or_unnamed body (Field NoSuchField) (head, begins, not-prime, not-binary) =
+missing_or_unnamed body (BadNumber place) missing = inl missing.1
+missing_or_unnamed body BadBody missing = inl missing.1
+missing_or_unnamed body (Field NoSuchField) (number, head, begins, not-prime, not-binary) =
     inr (record { head = head; begins = begins; broken = inl (refl, not-prime, not-binary) })
-missing_or_unnamed body (Field (Made NoPrime)) (head, begins, kind, none) = inr (record { head = head; begins = begins; broken = inr (inl (refl, kind)) })
-missing_or_unnamed body (Field (Made BadModulus)) (head, begins, kind, none) = inr (record { head = head; begins = begins; broken = inr (inr (refl, kind)) })
+missing_or_unnamed body (Field (Made NoPrime)) (number, head, begins, kind, none) = inr (record { head = head; begins = begins; broken = inr (inl (refl, kind)) })
+missing_or_unnamed body (Field (Made BadModulus)) (number, head, begins, kind, none) = inr (record { head = head; begins = begins; broken = inr (inr (refl, kind)) })
 missing_or_unnamed body BadNote never = absurd never
 missing_or_unnamed body (Card cause) never = absurd never
 missing_or_unnamed body (Tag cause) never = absurd never

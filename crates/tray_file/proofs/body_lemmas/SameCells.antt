@@ -10,7 +10,7 @@ use Rattle.tray_file.specs.declared.fault.tag_cause.TagCause.TheVariants.{NoLett
 use Rattle.tray_file.specs.body.WholeLists.{Are}
 use Rattle.tray_file.specs.body.CellBodies.{letter_number, cell_number, cell_of_number, cells_of, UpTo, CellsIn, CellsRefused}
 use Rattle.tray_file.specs.declared.body.cells_refusal.CellsRefusal.TheVariants.{WrongLength, Body}
-use Rattle.tray_file.specs.body.SameCards.{CellsReadBack}
+use Rattle.tray_file.specs.body.OneReading.{CellsReadBack}
 use Rattle.tray_file.proofs.body_lemmas.SameNumbers.{are_begins, same_list, list_never}
 
 letter_of_number : (letter : Option ℕ) → cell_of_number (letter_number letter) ≡ record { letter = letter }
@@ -41,9 +41,9 @@ module _ (n letters : ℕ) (body : List ℕ) (cells : List Cell) (is : CellsIn n
   count = length-map cells cell_number ∙ is.count
 
   pub cells_never : (fault : BodyFault) → CellsRefused n letters body fault → ⊥
-  cells_never (BadNumber place) refused = list_never 0 n vs body (BadNumber place) are count refused
-  cells_never BadBody refused = list_never 0 n vs body BadBody are count refused
-  cells_never (Tag NoLetter) bad =
+  cells_never (BadNumber place) refused = list_never 0 n vs body (BadNumber place) are count refused.1
+  cells_never BadBody refused = list_never 0 n vs body BadBody are count refused.1
+  cells_never (Tag NoLetter) (number, bad) =
       let same = same_list vs bad.values body (are_begins vs body are) (are_begins bad.values body bad.are) (count ∙ sym bad.count) in
       bad.above (subst (UpTo letters) same (up_to_cells letters cells is.lettered))
   cells_never BadNote never = never
@@ -59,6 +59,6 @@ module _ (n letters : ℕ) (body : List ℕ) (cells : List Cell) (is : CellsIn n
 
 pub cells_read_back : CellsReadBack
 cells_read_back code body cells before after (Ok done) is long read = (refl, same_cells (length code.locators) code.letters body cells is after read.1)
-cells_read_back code body cells before after (Err WrongLength) is long refused = absurd (refused.0 long)
+cells_read_back code body cells before after (Err WrongLength) is long refused = absurd (refused.1 long)
 cells_read_back code body cells before after (Err (Body fault)) is long refused =
-    absurd (cells_never (length code.locators) code.letters body cells is fault refused.1)
+    absurd (cells_never (length code.locators) code.letters body cells is fault refused.2)

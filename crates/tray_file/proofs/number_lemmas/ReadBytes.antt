@@ -107,7 +107,7 @@ reads_back value start rest (Ok read) small (first, end) =
     let written = stands value (number_bytes value ++ rest) rest small refl in
     let same = same_number read.value value (number_bytes value ++ rest) first written in
     ap (λ v. Ok (record { value = v; end = read.end })) same ∙ ap (λ e. Ok (record { value = value; end = e })) (end ∙ ap (λ v. start + length (number_bytes v)) same)
-reads_back value start rest (Err CutOff) small inside =
+reads_back value start rest (Err CutOff) small (number, inside) =
     absurd (not_inside value (number_bytes value ++ rest) (stands value (number_bytes value ++ rest) rest small refl) inside)
-reads_back value start rest (Err BadNumber) small bad =
+reads_back value start rest (Err BadNumber) small (number, bad) =
     absurd (bad.none value (stands value (number_bytes value ++ rest) rest small refl))

@@ -1,5 +1,5 @@
 -- A file has one list of records and one end.
-use Rattle.std.proofs.Common.{◌≡◌, ℕ, ◌+◌, List, [], ◌∷◌, length, drop, Some, None, Option, sym, refl, ap, ◌∙◌, subst, ap₂, inl, inr, arith}
+use Rattle.std.proofs.Common.{◌≡◌, ℕ, ◌+◌, false, List, [], ◌∷◌, length, drop, Some, None, Option, sym, refl, ap, ◌∙◌, subst, ap₂, inl, inr, arith}
 use Rattle.tray_file.specs.number.Numbers.{number_bytes}
 use Rattle.tray_file.specs.number.NumberReading.{StandsFirst, NumberRefused}
 use Rattle.tray_file.specs.declared.number.cause.NumberCause.{NumberCause}
@@ -7,40 +7,46 @@ use Rattle.tray_file.specs.declared.number.cause.NumberCause.TheVariants.{CutOff
 use Rattle.tray_file.proofs.number_lemmas.NumberBytes.{same_number}
 use Rattle.tray_file.specs.declared.fault.body_fault.BodyFault.{BodyFault}
 use Rattle.tray_file.proofs.body_lemmas.OneFault.{one_card_fault, one_cells_fault}
-use Rattle.tray_file.proofs.body_lemmas.OneShape.{one_shape}
+use Rattle.tray_file.proofs.body_lemmas.EqualCards.{one_card}
 use Rattle.tray_file.specs.fault.Faults.{number_fault, body_fault}
 use Rattle.tray_file.specs.reader.RecordKinds.{kind_number}
-use Rattle.tray_file.specs.reader.Turns.{task_for}
-use Rattle.tray_file.specs.reader.Entries.{Entry, entry_bytes}
+use Rattle.tray_file.specs.reader.Turns.{is_in_turn}
+use Rattle.tray_file.specs.reader.Entries.{Entry, entry_bytes, body_place}
 use Rattle.tray_file.specs.reader.Headers.{after_number, NoKind, StrangeKind, NotInTurn, KindStands, NoLength, NoBody, HeaderRefused}
 use Rattle.tray_file.specs.reader.Records.{Done, BodyRefused, Follows, BodyWrong, RecordRefused}
 use Rattle.tray_file.specs.reader.Files.{FileFrom, OneFile}
 use Rattle.tray_file.specs.declared.fault.Fault.{Fault}
 use Rattle.tray_file.specs.declared.reader.kind.Kind.{Kind}
+use Rattle.tray_file.specs.declared.reader.kind.Kind.TheVariants as kinds
 use Rattle.tray_file.specs.declared.reader.turn.Turn.{Turn}
-use Rattle.tray_file.specs.declared.reader.turn.Turn.TheVariants.{Start, InTurn}
-use Rattle.tray_file.specs.declared.reader.turn.Task.{Task}
-use Rattle.tray_file.specs.declared.reader.turn.Task.TheVariants.{Card, Cells, Note}
-use Rattle.tray_file.proofs.reader_lemmas.OneRecord.{one_kind, number_never, one_task, no_task, same_entry, empty_never, header_never, record_never}
+use Rattle.tray_file.specs.declared.reader.turn.Turn.TheVariants.{Start, InTurn, AfterNote}
+use Rattle.tray_file.proofs.reader_lemmas.OneRecord.{one_kind, number_never, not_out, refused_in_turn, same_entry, empty_never, header_never, record_never}
 
 -- one thing is in turn after a body
-one_next : (task : Task) (body : List ℕ) (a b : Turn) → Done task body a → Done task body b → a ≡ b
-one_next Card body a b done also =
-    done.next ∙ ap (λ s. InTurn s) (one_shape body done.card also.card done.shape also.shape done.read also.read done.shaped also.shaped) ∙ sym also.next
-one_next (Cells shape) body a b done also = done.1 ∙ sym also.1
-one_next (Note shape) body a b done also = done.1 ∙ sym also.1
+one_next : (kind : Kind) (turn : Turn) (body : List ℕ) (a b : Turn) → Done kind turn body a → Done kind turn body b → a ≡ b
+one_next kinds.Card turn body a b done also = done.2 ∙ ap (λ c. InTurn c) (one_card body done.0 also.0 done.1 also.1) ∙ sym also.2
+one_next kinds.Cells Start body a b done also = absurd done
+one_next kinds.Cells (InTurn card) body a b done also = done.1 ∙ sym also.1
+one_next kinds.Cells (AfterNote card) body a b done also = done.1 ∙ sym also.1
+one_next kinds.Note Start body a b done also = absurd done
+one_next kinds.Note (InTurn card) body a b done also = done.1 ∙ sym also.1
+one_next kinds.Note (AfterNote card) body a b done also = absurd done
 
 -- a body is refused in one way
-one_body_fault : (task : Task) (body : List ℕ) (f g : BodyFault) → BodyRefused task body f → BodyRefused task body g → f ≡ g
-one_body_fault Card body f g refused also = one_card_fault body f g refused also
-one_body_fault (Cells shape) body f g refused also = one_cells_fault shape.cells shape.letters body f g refused also
-one_body_fault (Note shape) body f g refused also = refused.1 ∙ sym also.1
+one_body_fault : (kind : Kind) (turn : Turn) (body : List ℕ) (f g : BodyFault) → BodyRefused kind turn body f → BodyRefused kind turn body g → f ≡ g
+one_body_fault kinds.Card turn body f g refused also = one_card_fault body f g refused also
+one_body_fault kinds.Cells Start body f g refused also = absurd refused
+one_body_fault kinds.Cells (InTurn card) body f g refused also = one_cells_fault _ _ body f g refused also
+one_body_fault kinds.Cells (AfterNote card) body f g refused also = one_cells_fault _ _ body f g refused also
+one_body_fault kinds.Note Start body f g refused also = absurd refused
+one_body_fault kinds.Note (InTurn card) body f g refused also = refused.2 ∙ sym also.2
+one_body_fault kinds.Note (AfterNote card) body f g refused also = absurd refused
 
 -- a number is missing in one way
 one_cause : (bytes : List ℕ) (c d : NumberCause) → NumberRefused bytes c → NumberRefused bytes d → c ≡ d
 one_cause bytes CutOff CutOff refused also = refl
-one_cause bytes CutOff BadNumber inside bad = absurd (bad.whole inside)
-one_cause bytes BadNumber CutOff bad inside = absurd (bad.whole inside)
+one_cause bytes CutOff BadNumber inside bad = absurd (bad.1.whole inside.1)
+one_cause bytes BadNumber CutOff bad inside = absurd (bad.1.whole inside.1)
 one_cause bytes BadNumber BadNumber refused also = refl
 
 module _ (turn : Turn) (place : ℕ) (bytes : List ℕ) where
@@ -53,9 +59,9 @@ module _ (turn : Turn) (place : ℕ) (bytes : List ℕ) where
   strange_never : (f : Fault) (kind : Kind) → StrangeKind place bytes f → StandsFirst (kind_number kind) bytes → ⊥
   strange_never f kind x stands = x.strange kind (same_number x.number (kind_number kind) bytes x.stands stands)
 
-  out_never : (f : Fault) (kind : Kind) (task : Task) → NotInTurn turn place bytes f → KindStands turn bytes kind task → ⊥
-  out_never f kind task x first =
-      no_task (task_for turn kind) task first.in_turn (subst (λ (y : Kind). task_for turn y ≡ None) (first_kind kind x.kind first.stands x.stands) x.out)
+  out_never : (f : Fault) (kind : Kind) → NotInTurn turn place bytes f → KindStands turn bytes kind → ⊥
+  out_never f kind x first =
+      not_out kind turn first.in_turn (subst (λ (y : Kind). is_in_turn y turn ≡ false) (first_kind kind x.kind first.stands x.stands) x.out)
 
   length_never : (f g : Fault) → NoLength turn place bytes f → NoBody turn place bytes g → ⊥
   length_never f g x y =
@@ -87,16 +93,16 @@ module _ (turn : Turn) (place : ℕ) (bytes : List ℕ) where
   one_header_fault f g (inr (inr (inl x))) (inl y) = absurd (kind_never g (kind_number x.kind) y x.stands)
   one_header_fault f g (inr (inr (inl x))) (inr (inl y)) = absurd (strange_never g x.kind y x.stands)
   one_header_fault f g (inr (inr (inl x))) (inr (inr (inl y))) = x.is ∙ sym y.is
-  one_header_fault f g (inr (inr (inl x))) (inr (inr (inr (inl y)))) = absurd (out_never f y.kind y.task x y.first)
-  one_header_fault f g (inr (inr (inl x))) (inr (inr (inr (inr y)))) = absurd (out_never f y.kind y.task x y.first)
+  one_header_fault f g (inr (inr (inl x))) (inr (inr (inr (inl y)))) = absurd (out_never f y.kind x y.first)
+  one_header_fault f g (inr (inr (inl x))) (inr (inr (inr (inr y)))) = absurd (out_never f y.kind x y.first)
   one_header_fault f g (inr (inr (inr (inl x)))) (inl y) = absurd (kind_never g (kind_number x.kind) y x.first.stands)
   one_header_fault f g (inr (inr (inr (inl x)))) (inr (inl y)) = absurd (strange_never g x.kind y x.first.stands)
-  one_header_fault f g (inr (inr (inr (inl x)))) (inr (inr (inl y))) = absurd (out_never g x.kind x.task y x.first)
+  one_header_fault f g (inr (inr (inr (inl x)))) (inr (inr (inl y))) = absurd (out_never g x.kind y x.first)
   one_header_fault f g (inr (inr (inr (inl x)))) (inr (inr (inr (inl y)))) = one_no_length f g x y
   one_header_fault f g (inr (inr (inr (inl x)))) (inr (inr (inr (inr y)))) = absurd (length_never f g x y)
   one_header_fault f g (inr (inr (inr (inr x)))) (inl y) = absurd (kind_never g (kind_number x.kind) y x.first.stands)
   one_header_fault f g (inr (inr (inr (inr x)))) (inr (inl y)) = absurd (strange_never g x.kind y x.first.stands)
-  one_header_fault f g (inr (inr (inr (inr x)))) (inr (inr (inl y))) = absurd (out_never g x.kind x.task y x.first)
+  one_header_fault f g (inr (inr (inr (inr x)))) (inr (inr (inl y))) = absurd (out_never g x.kind y x.first)
   one_header_fault f g (inr (inr (inr (inr x)))) (inr (inr (inr (inl y)))) = absurd (length_never g f y x)
   one_header_fault f g (inr (inr (inr (inr x)))) (inr (inr (inr (inr y)))) = x.is ∙ sym y.is
 
@@ -104,26 +110,22 @@ module _ (turn : Turn) (place : ℕ) (bytes : List ℕ) where
   one_wrong_body : (f g : Fault) → BodyWrong turn place bytes f → BodyWrong turn place bytes g → f ≡ g
   one_wrong_body f g x y =
       let same = same_entry x.whole y.whole bytes x.first x.small y.first y.small in
-      let in_turn = subst (λ (e : Entry). task_for turn e.kind ≡ Some y.task) same y.in_turn in
-      let tasks = one_task (task_for turn x.whole.kind) y.task x.task in_turn x.in_turn in
-      let refused = subst (λ (t : Task). BodyRefused t x.whole.body y.cause) tasks (subst (λ (e : Entry). BodyRefused y.task e.body y.cause) same y.refused) in
-      let causes = one_body_fault x.task x.whole.body x.cause y.cause x.refused refused in
+      let refused = subst (λ (e : Entry). BodyRefused e.kind turn e.body y.cause) same y.refused in
+      let causes = one_body_fault x.whole.kind turn x.whole.body x.cause y.cause x.refused refused in
       x.is
-      ∙ ap₂ (λ (e : Entry) (c : BodyFault). body_fault place (place + length (number_bytes (kind_number e.kind)) + length (number_bytes (length e.body))) c) (sym same) causes
+      ∙ ap₂ (λ (e : Entry) (c : BodyFault). body_fault place (body_place place e) c) (sym same) causes
       ∙ sym y.is
 
   -- where no record stands in its turn there is one fault
-  one_record_fault : (f g : Fault) → RecordRefused turn place bytes f → RecordRefused turn place bytes g → f ≡ g
+  pub one_record_fault : (f g : Fault) → RecordRefused turn place bytes f → RecordRefused turn place bytes g → f ≡ g
   one_record_fault f g (inl x) (inl y) = one_header_fault f g x y
-  one_record_fault f g (inl x) (inr y) = absurd (header_never turn place bytes y.whole y.task f y.first y.small y.in_turn x)
-  one_record_fault f g (inr x) (inl y) = absurd (header_never turn place bytes x.whole x.task g x.first x.small x.in_turn y)
+  one_record_fault f g (inl x) (inr y) = absurd (header_never turn place bytes y.whole f y.first y.small (refused_in_turn y.whole.kind turn y.whole.body y.cause y.refused) x)
+  one_record_fault f g (inr x) (inl y) = absurd (header_never turn place bytes x.whole g x.first x.small (refused_in_turn x.whole.kind turn x.whole.body x.cause x.refused) y)
   one_record_fault f g (inr x) (inr y) = one_wrong_body f g x y
 
 -- one thing is in turn after an entry
-one_follows : (turn : Turn) (e : Entry) (a b : Turn) → Follows turn e a → Follows turn e b → b ≡ a
-one_follows turn e a b follows also =
-    let tasks = one_task (task_for turn e.kind) also.task follows.task also.in_turn follows.in_turn in
-    one_next follows.task e.body b a (subst (λ (t : Task). Done t e.body b) tasks also.done) follows.done
+pub one_follows : (turn : Turn) (e : Entry) (a b : Turn) → Follows turn e a → Follows turn e b → b ≡ a
+one_follows turn e a b follows also = one_next e.kind turn e.body b a also.done follows.done
 
 one_file_from : (turn : Turn) (place : ℕ) (bytes : List ℕ) (es fs : List Entry) (a b : Option Fault) →
     FileFrom turn place bytes es a → FileFrom turn place bytes fs b → (es ≡ fs) × (a ≡ b)

@@ -1,5 +1,6 @@
 -- A record that stands first, in its turn, is the only answer.
-use Rattle.std.proofs.Common.{◌≡◌, ℕ, ◌+◌, ◌<◌, ◌≤◌, List, [], ◌++◌, length, take, drop, Some, None, Ok, Err, Option, sym, refl, ap, ◌∙◌, subst, ap₂, ⊎_elim, arith, lit≤}
+use Rattle.std.proofs.Common.{◌≡◌, ℕ, ◌+◌, ◌<◌, ◌≤◌, true, false, List, [], ◌++◌, length, take, drop, Some, None, Ok, Err, Option, sym, refl, ap, ◌∙◌, subst, ap₂, ⊎_elim, arith, lit≤}
+use Rattle.std.proofs.lemmas.Bool.{true≢false}
 use Rattle.std.proofs.lemmas.List.{append_assoc, length-append, drop_at, take_at}
 use Rattle.tray_file.specs.number.Numbers.{largest_number, number_bytes}
 use Rattle.tray_file.specs.number.NumberReading.{StandsFirst, NumberRefused}
@@ -10,24 +11,47 @@ use Rattle.tray_file.specs.declared.fault.body_fault.BodyFault.{BodyFault}
 use Rattle.tray_file.proofs.body_lemmas.OneCard.{card_never}
 use Rattle.tray_file.proofs.body_lemmas.SameCells.{cells_never}
 use Rattle.tray_file.specs.reader.RecordKinds.{kind_number}
-use Rattle.tray_file.specs.reader.Turns.{task_for}
-use Rattle.tray_file.specs.reader.Entries.{Entry, entry, entry_of, entry_bytes}
+use Rattle.tray_file.specs.reader.Turns.{is_in_turn}
+use Rattle.tray_file.specs.reader.Entries.{Entry, entry, entry_of, part_of, entry_bytes, body_place, VeryPart}
 use Rattle.tray_file.specs.reader.Headers.{after_number, NoKind, StrangeKind, NotInTurn, NoLength, NoBody, HeaderRefused}
-use Rattle.tray_file.specs.reader.Records.{Done, BodyRefused, Follows, EntryFirst, BodyWrong, RecordRefused}
+use Rattle.tray_file.specs.reader.Records.{Done, BodyRefused, Follows, EntryFirst, KeptCells, BodyWrong, RecordRefused}
 use Rattle.tray_file.specs.reader.Readers.{left_of, RecordReadsBack}
 use Rattle.tray_file.specs.declared.fault.Fault.{Fault}
 use Rattle.tray_file.specs.declared.reader.kind.Kind.{Kind}
 use Rattle.tray_file.specs.declared.reader.kind.Kind.TheVariants as kinds
 use Rattle.tray_file.specs.declared.reader.turn.Turn.{Turn}
-use Rattle.tray_file.specs.declared.reader.turn.Task.{Task}
-use Rattle.tray_file.specs.declared.reader.turn.Task.TheVariants.{Card, Cells, Note}
+use Rattle.tray_file.specs.declared.reader.turn.Turn.TheVariants.{Start, InTurn, AfterNote}
 use Rattle.tray_file.proofs.reader_lemmas.HeaderPlaces.{some_bytes}
 
+-- what is done is in turn
+pub done_in_turn : (kind : Kind) (turn : Turn) (body : List ℕ) (next : Turn) → Done kind turn body next → is_in_turn kind turn ≡ true
+done_in_turn kinds.Card turn body next done = refl
+done_in_turn kinds.Cells Start body next done = absurd done
+done_in_turn kinds.Cells (InTurn card) body next done = refl
+done_in_turn kinds.Cells (AfterNote card) body next done = refl
+done_in_turn kinds.Note Start body next done = absurd done
+done_in_turn kinds.Note (InTurn card) body next done = refl
+done_in_turn kinds.Note (AfterNote card) body next done = absurd done
+
+-- a body that is refused is in turn
+pub refused_in_turn : (kind : Kind) (turn : Turn) (body : List ℕ) (fault : BodyFault) → BodyRefused kind turn body fault → is_in_turn kind turn ≡ true
+refused_in_turn kinds.Card turn body fault refused = refl
+refused_in_turn kinds.Cells Start body fault refused = absurd refused
+refused_in_turn kinds.Cells (InTurn card) body fault refused = refl
+refused_in_turn kinds.Cells (AfterNote card) body fault refused = refl
+refused_in_turn kinds.Note Start body fault refused = absurd refused
+refused_in_turn kinds.Note (InTurn card) body fault refused = refl
+refused_in_turn kinds.Note (AfterNote card) body fault refused = absurd refused
+
 -- a body that is done is not refused
-body_never : (task : Task) (body : List ℕ) (next : Turn) (fault : BodyFault) → Done task body next → BodyRefused task body fault → ⊥
-body_never Card body next fault done refused = card_never body done.card fault done.read refused
-body_never (Cells shape) body next fault done refused = cells_never shape.cells shape.letters body done.0.0 done.0.1 fault refused
-body_never (Note shape) body next fault done refused = refused.0 done.0
+body_never : (kind : Kind) (turn : Turn) (body : List ℕ) (next : Turn) (fault : BodyFault) → Done kind turn body next → BodyRefused kind turn body fault → ⊥
+body_never kinds.Card turn body next fault done refused = card_never body done.0 fault done.1 refused
+body_never kinds.Cells Start body next fault done refused = done
+body_never kinds.Cells (InTurn card) body next fault done refused = cells_never _ _ body done.0.0 done.0.1 fault refused
+body_never kinds.Cells (AfterNote card) body next fault done refused = cells_never _ _ body done.0.0 done.0.1 fault refused
+body_never kinds.Note Start body next fault done refused = done
+body_never kinds.Note (InTurn card) body next fault done refused = refused.1 done.0
+body_never kinds.Note (AfterNote card) body next fault done refused = done
 
 kind_small : (kind : Kind) → kind_number kind ≤ largest_number
 kind_small kinds.Card = lit≤ tt
@@ -46,14 +70,11 @@ one_kind kinds.Note kinds.Cells e = absurd (omega arith)
 one_kind kinds.Note kinds.Note e = refl
 
 pub number_never : (value : ℕ) (bytes : List ℕ) (cause : NumberCause) → StandsFirst value bytes → NumberRefused bytes cause → ⊥
-number_never value bytes CutOff first inside = not_inside value bytes first inside
-number_never value bytes BadNumber first bad = bad.none value first
+number_never value bytes CutOff first (number, inside) = not_inside value bytes first inside
+number_never value bytes BadNumber first (number, bad) = bad.none value first
 
-pub one_task : (o : Option Task) (a b : Task) → o ≡ Some a → o ≡ Some b → a ≡ b
-one_task o a b e f = cc
-
-pub no_task : (o : Option Task) (a : Task) → o ≡ Some a → o ≡ None → ⊥
-no_task o a e f = let never : ◌≡◌ {A = ℕ} 0 1 = cc in absurd (omega arith)
+pub not_out : (kind : Kind) (turn : Turn) → is_in_turn kind turn ≡ true → is_in_turn kind turn ≡ false → ⊥
+not_out kind turn e f = true≢false (sym e ∙ f)
 
 -- what an entry that stands first tells of the bytes
 module _ (e : Entry) (bytes : List ℕ) (first : EntryFirst e bytes) (small : length e.body ≤ largest_number) where
@@ -102,9 +123,9 @@ empty_never e bytes first none =
     omega (arith, ap length none, ap length first, length-append (entry_bytes e) (drop (length (entry_bytes e)) bytes), length-append (number_bytes (kind_number e.kind)) (number_bytes (length e.body) ++ e.body))
 
 -- where an entry in turn stands first, its kind and its length are not refused
-pub header_never : (turn : Turn) (place : ℕ) (bytes : List ℕ) (e : Entry) (task : Task) (fault : Fault) → EntryFirst e bytes → length e.body ≤ largest_number →
-    task_for turn e.kind ≡ Some task → HeaderRefused turn place bytes fault → ⊥
-header_never turn place bytes e task fault first small is_in_turn refused =
+pub header_never : (turn : Turn) (place : ℕ) (bytes : List ℕ) (e : Entry) (fault : Fault) → EntryFirst e bytes → length e.body ≤ largest_number →
+    is_in_turn e.kind turn ≡ true → HeaderRefused turn place bytes fault → ⊥
+header_never turn place bytes e fault first small in_turn refused =
     let kind_stands = kind_first e bytes first small in
     let size-stands = size_first e bytes first small in
     ⊎_elim (λ (x : NoKind place bytes fault). number_never (kind_number e.kind) bytes x.cause kind_stands x.refused)
@@ -112,7 +133,7 @@ header_never turn place bytes e task fault first small is_in_turn refused =
     (⊎_elim
     (λ (x : NotInTurn turn place bytes fault).
     let same = one_kind x.kind e.kind (same_number (kind_number x.kind) (kind_number e.kind) bytes x.stands kind_stands) in
-    no_task (task_for turn e.kind) task is_in_turn (subst (λ (y : Kind). task_for turn y ≡ None) same x.out))
+    not_out e.kind turn in_turn (subst (λ (y : Kind). is_in_turn y turn ≡ false) same x.out))
     (⊎_elim
     (λ (x : NoLength turn place bytes fault).
     let same = one_kind x.kind e.kind (same_number (kind_number x.kind) (kind_number e.kind) bytes x.first.stands kind_stands) in
@@ -132,13 +153,10 @@ pub record_never : (turn : Turn) (place : ℕ) (bytes : List ℕ) (e : Entry) (n
     RecordRefused turn place bytes fault → ⊥
 record_never turn place bytes e next fault first follows refused =
     let small = follows.small in
-    ⊎_elim (header_never turn place bytes e follows.task fault first small follows.in_turn)
+    ⊎_elim (header_never turn place bytes e fault first small (done_in_turn e.kind turn e.body next follows.done))
     (λ (x : BodyWrong turn place bytes fault).
     let same = same_entry e x.whole bytes first small x.first x.small in
-    let in_turn = subst (λ (y : Entry). task_for turn y.kind ≡ Some x.task) same x.in_turn in
-    let tasks = one_task (task_for turn e.kind) x.task follows.task in_turn follows.in_turn in
-    body_never follows.task e.body next x.cause follows.done
-    (subst (λ (t : Task). BodyRefused t e.body x.cause) tasks (subst (λ (y : Entry). BodyRefused x.task y.body x.cause) same x.refused)))
+    body_never e.kind turn e.body next x.cause follows.done (subst (λ (y : Entry). BodyRefused y.kind turn y.body x.cause) same x.refused))
     refused
 
 not_both : (o : Option Fault) (fault : Fault) → o ≡ None → o ≡ Some fault → ⊥
@@ -158,6 +176,8 @@ record_reads_back before e next (Some (Ok found)) after clear first follows step
       same = same;
       end_place = here.end_place ∙ ap (λ (x : Entry). before.place + length (entry_bytes x)) same;
       follows = subst (λ (x : Entry). Follows before.turn x after.turn) same here.follows;
+      very = subst (λ (x : Entry). VeryPart before.file (part_of found) (body_place before.place x)) same step.very;
+      cells = subst (λ (x : Entry). KeptCells x.kind after.turn x.body before.cells.items after.cells.items) same step.cells;
       still_none = step.still_none;
       same_file = step.same_file;
     }

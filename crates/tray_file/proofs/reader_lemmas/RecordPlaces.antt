@@ -5,15 +5,29 @@ use Rattle.std.proofs.lemmas.List.{append_assoc, length-append, length-drop, dro
 use Rattle.tray_file.specs.number.Numbers.{largest_number, number_bytes}
 use Rattle.tray_file.specs.number.NumberReading.{StandsFirst}
 use Rattle.tray_file.specs.declared.fault.body_fault.BodyFault.{BodyFault}
-use Rattle.tray_file.specs.fault.Faults.{body_fault}
+use Rattle.tray_file.specs.declared.fault.body_fault.BodyFault.TheVariants as causes
+use Rattle.tray_file.specs.fault.Layers.{body_fault_number}
+use Rattle.tray_file.specs.fault.Faults.{body_fault, fault_number}
 use Rattle.tray_file.specs.reader.RecordKinds.{kind_number}
-use Rattle.tray_file.specs.reader.Entries.{entry, record_bytes}
+use Rattle.tray_file.specs.reader.Entries.{entry, record_bytes, body_place}
 use Rattle.tray_file.specs.reader.Headers.{after_number, HeaderIn}
-use Rattle.tray_file.specs.reader.Records.{BodyRefused, Done, EntryFirst, BodyWrong, StepIn}
+use Rattle.tray_file.specs.reader.Records.{BodyRefused, Done, EntryFirst, KeptCells, BodyWrong, StepIn}
 use Rattle.tray_file.specs.declared.fault.Fault.{Fault}
 use Rattle.tray_file.specs.declared.reader.header.Header.{Header}
+use Rattle.tray_file.specs.reader.Turns.{turn_after}
 use Rattle.tray_file.specs.declared.reader.turn.Turn.{Turn}
+use Rattle.tray_file.specs.declared.reader.turn.Passed.{Passed}
+use Rattle.codes.specs.declared.cell.Cell.{Cell}
 use Rattle.tray_file.proofs.reader_lemmas.HeaderPlaces.{number_ends}
+
+-- the number of a body's fault is that of its cause
+body_number_is : (at place : ℕ) (cause : BodyFault) → fault_number (body_fault at place cause) ≡ body_fault_number cause
+body_number_is at place (causes.BadNumber offset) = refl
+body_number_is at place causes.BadBody = refl
+body_number_is at place causes.BadNote = refl
+body_number_is at place (causes.Field cause) = refl
+body_number_is at place (causes.Card cause) = refl
+body_number_is at place (causes.Tag cause) = refl
 
 -- bytes that begin with some others
 pub first_of : (bytes front rest : List ℕ) → bytes ≡ front ++ rest → bytes ≡ front ++ drop (length front) bytes
@@ -82,26 +96,32 @@ module _ (turn : Turn) (place : ℕ) (file : List ℕ) (header : Header) (h : He
   ends =
       omega (arith, h.end_place, h.body_place, body_long, length-append (number_bytes k) (number_bytes (length body) ++ body), length-append (number_bytes (length body)) body, ap (λ n. length (number_bytes n)) body_long)
 
-  pub step_in : (next : Turn) → Done header.task body next → StepIn turn place file (record { kind = header.kind; body = header.body; end = header.end; turn = next })
-  step_in next done = record {
+  place_is : header.body ≡ body_place place (entry header.kind body)
+  place_is = h.body_place ∙ ap (λ n. place + length (number_bytes k) + length (number_bytes n)) (sym body_long)
+
+  pub step_in : (before after : List Cell) (passed : Passed) → Done header.kind turn body (turn_after turn passed) →
+      KeptCells header.kind (turn_after turn passed) body before after →
+      StepIn turn place file before after (record { kind = header.kind; body = header.body; end = header.end; passed = passed })
+  step_in before after passed done kept = record {
     order = order;
     within = within;
+    place_is = place_is;
     here = record {
       first = entry_first;
-      follows = record { task = header.task; in_turn = h.first.in_turn; small = size_small; done = done };
+      follows = record { small = size_small; done = done };
       end_place = ends;
     };
+    cells = kept;
   }
 
-  pub body_wrong : (cause : BodyFault) (fault : Fault) → BodyRefused header.task body cause → fault ≡ body_fault place header.body cause →
+  pub body_wrong : (cause : BodyFault) (fault : Fault) → BodyRefused header.kind turn body cause → fault ≡ body_fault place header.body cause →
       BodyWrong turn place bytes fault
   body_wrong cause fault refused is = record {
     whole = entry header.kind body;
     first = entry_first;
     small = size_small;
-    task = header.task;
-    in_turn = h.first.in_turn;
     cause = cause;
     refused = refused;
-    is = is ∙ ap (λ n. body_fault place n cause) (h.body_place ∙ ap (λ n. place + length (number_bytes k) + length (number_bytes n)) (sym body_long));
+    is = is ∙ ap (λ n. body_fault place n cause) place_is;
+    number_is = ap fault_number is ∙ body_number_is place header.body cause;
   }

@@ -1,11 +1,13 @@
 -- All answers of a reader over a whole file.
 use Rattle.std.proofs.Common.{◌≡◌, ℕ, ◌+◌, ltb, List, [], ◌∷◌, map, length, drop, Some, None, Option, sym, refl, ap, ◌∙◌, subst, inl, inr, ⊎_elim, arith}
+use Rattle.std.specs.Borrow.{Bor}
 use Rattle.std.proofs.lemmas.List.{drop-drop}
 use Rattle.std.proofs.lemmas.Bool.{cases_lt, lt-ltb, le-ltb, cond-true, cond-false}
 use Rattle.tray_file.specs.declared.fault.file_cause.FileCause.TheVariants.{LongFile}
 use Rattle.tray_file.specs.fault.Faults.{fault_at}
 use Rattle.tray_file.specs.reader.Entries.{entry_of, entry_bytes}
-use Rattle.tray_file.specs.reader.Files.{longest_file, FileFrom}
+use Rattle.tray_file.specs.reader.Files.{FileFrom}
+use Rattle.tray_file.specs.reader.FileLimits.{longest_file}
 use Rattle.tray_file.specs.reader.Readers.{left_of, Run, EveryRun}
 use Rattle.tray_file.specs.declared.fault.Fault.{Fault}
 use Rattle.tray_file.specs.declared.reader.record.Record.{Record}
@@ -30,7 +32,7 @@ run_from (r ∷ rs) reader ending last clear (next, step, run) =
     let here = step.here in
     let rest = run_from rs next ending last step.still_none run in
     let bytes : left_of next ≡ drop (length (entry_bytes e)) (left_of reader) =
-    ap (drop next.place) step.same_file ∙ ap (λ n. drop n reader.file.now) here.end_place
+    ap (λ (f : Bor (List ℕ)). drop next.place f.now) step.same_file ∙ ap (λ n. drop n reader.file.now) here.end_place
     ∙ sym (drop-drop (length (entry_bytes e)) reader.place reader.file.now) in (
       here.first,
       (
@@ -56,17 +58,17 @@ pub every_run : EveryRun
 every_run file reader rs ending last opened run =
     ⊎_elim
     (λ long.
-    let fault = opened.too_long ∙ cond-true (ltb longest_file (length file)) _ _ (lt-ltb longest_file (length file) long) in
+    let fault = opened.too_long ∙ cond-true (ltb longest_file (length file.now)) _ _ (lt-ltb longest_file (length file.now) long) in
     let found = run_fault rs reader ending last (fault_at 0 LongFile) fault run in
-    inl (long, found.0, found.1))
+    inl (long, found.0, found.1, refl))
     (λ short.
-    let clear = opened.too_long ∙ cond-false (ltb longest_file (length file)) _ _ (le-ltb longest_file (length file) short) in
+    let clear = opened.too_long ∙ cond-false (ltb longest_file (length file.now)) _ _ (le-ltb longest_file (length file.now) short) in
     let found = run_from rs reader ending last clear run in
-    let bytes : left_of reader ≡ file = ap (λ n. drop n reader.file.now) opened.at_start ∙ opened.same_file in
+    let bytes : left_of reader ≡ file.now = ap (λ n. drop n reader.file.now) opened.at_start ∙ ap (λ (f : Bor (List ℕ)). f.now) opened.same_file in
     inr (
       short,
       subst (λ (l : List ℕ). FileFrom Start 0 l (map entry_of rs) ending) bytes
           (subst (λ n. FileFrom Start n (left_of reader) (map entry_of rs) ending) opened.at_start
           (subst (λ (t : Turn). FileFrom t reader.place (left_of reader) (map entry_of rs) ending) opened.first_turn found)),
     ))
-    (cases_lt longest_file (length file))
+    (cases_lt longest_file (length file.now))

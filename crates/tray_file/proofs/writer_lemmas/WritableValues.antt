@@ -1,5 +1,5 @@
 -- Values that can be written as numbers.
-use Rattle.std.proofs.Common.{◌≡◌, ℕ, suc, ◌≤◌, List, [], ◌∷◌, ◌++◌, map, length, Some, None, Ok, Err, Option, Result, sym, ap, ◌∙◌, subst, ap₂, arith}
+use Rattle.std.proofs.Common.{◌≡◌, ℕ, suc, ◌≤◌, List, [], ◌∷◌, ◌++◌, map, length, Some, None, Ok, Err, Option, Result, sym, refl, ap, ◌∙◌, subst, ap₂, arith}
 use Rattle.std.proofs.lemmas.List.{append-nil}
 use Rattle.algebra.specs.Limits.{largest_cells, largest_size}
 use Rattle.algebra.specs.Meaning.{Meaning}
@@ -60,7 +60,7 @@ cells_written code cells body before after r count lettered is written =
   where
     by_answer : (s : Result ℕ WriteRefusal) → RecordWritten (kind_number Cells) (cells_body cells) before after s → CellsWritten code cells before after s
     by_answer (Ok n) put = (count, lettered, put)
-    by_answer (Err TooSmall) small = (count, lettered, small)
+    by_answer (Err TooSmall) small = (refl, count, lettered, small.1)
     by_answer (Err NoLetter) never = absurd never
     by_answer (Err WrongLength) never = absurd never
     by_answer (Err BadNote) never = never

@@ -1,9 +1,11 @@
 -- Written records stand in their turn, so they read back.
-use Rattle.std.proofs.Common.{◌≡◌, ℕ, ◌*◌, ◌≤◌, List, [], ◌∷◌, ◌++◌, map, length, IfOk, Some, None, Ok, Err, Option, Result, sym, refl, ap, subst, ⊎_elim, arith}
+use Rattle.std.proofs.Common.{◌≡◌, ◌∙◌, ℕ, ◌*◌, ◌≤◌, List, [], ◌∷◌, ◌++◌, map, length, IfOk, Some, Ok, Err, Result, sym, refl, ap, subst, arith}
 use Rattle.std.proofs.lemmas.List.{length-append, length-map}
+use Rattle.std.proofs.lemmas.Option.{none-some, same_Some}
 use Rattle.algebra.specs.Meaning.{Meaning}
 use Rattle.fields.specs.Prime.{prime_meaning}
 use Rattle.fields.specs.Binary.{binary_meaning}
+use Rattle.codes.specs.AnyCards.{any_code}
 use Rattle.codes.specs.Code.{Code}
 use Rattle.codes.specs.Cards.{card_code}
 use Rattle.codes.specs.Checked.{Checked}
@@ -12,44 +14,35 @@ use Rattle.codes.specs.declared.cell.Cell.{Cell}
 use Rattle.tray_file.specs.number.Numbers.{largest_number, number_bytes}
 use Rattle.tray_file.specs.body.NumberLists.{numbers}
 use Rattle.tray_file.specs.body.CardBodies.{card_body, CardIn}
-use Rattle.tray_file.specs.body.CardShapes.{ShapeOf}
-use Rattle.tray_file.specs.body.CellBodies.{cell_number, cells_body, CellsIn}
+use Rattle.tray_file.specs.body.CellBodies.{cell_number, cells_body, CellsIn, CellsUnder}
 use Rattle.tray_file.specs.body.Notes.{PlainNote}
 use Rattle.codes.specs.declared.any_card.AnyCard.{AnyCard}
 use Rattle.codes.specs.declared.any_card.AnyCard.TheVariants.{Prime, Binary}
-use Rattle.tray_file.specs.declared.body.card_shape.CardShape.{CardShape}
-use Rattle.tray_file.proofs.body_lemmas.OneCard.{card_reads_back}
+use Rattle.tray_file.proofs.body_lemmas.EqualCards.{card_reads_back}
 use Rattle.tray_file.proofs.body_lemmas.SameCells.{cells_read_back}
 use Rattle.tray_file.specs.reader.Entries.{Entry, entry, entry_bytes}
 use Rattle.tray_file.specs.reader.Records.{Done, Follows}
 use Rattle.tray_file.specs.declared.reader.kind.Kind.{Kind}
-use Rattle.tray_file.specs.reader.Turns.{task_for}
+use Rattle.tray_file.specs.reader.Turns.{last_card}
 use Rattle.tray_file.specs.reader.Readers.{left_of}
 use Rattle.tray_file.specs.declared.reader.kind.Kind.TheVariants as kinds
 use Rattle.tray_file.specs.declared.reader.TrayReader.{TrayReader}
 use Rattle.tray_file.specs.declared.reader.turn.Turn.{Turn}
 use Rattle.tray_file.specs.declared.reader.turn.Turn.TheVariants.{Start, InTurn, AfterNote}
-use Rattle.tray_file.specs.declared.reader.turn.Task.{Task}
-use Rattle.tray_file.specs.declared.reader.turn.Task.TheVariants as tasks
 use Rattle.tray_file.proofs.reader_lemmas.RecordPlaces.{first_of}
 use Rattle.tray_file.proofs.reader_lemmas.OneRecord.{record_reads_back}
 use Rattle.tray_file.specs.reader.RecordKinds.{kind_number}
 use Rattle.tray_file.specs.writer.Writing.{RecordWritten}
 use Rattle.tray_file.specs.declared.writer.write_refusal.WriteRefusal.{WriteRefusal}
 use Rattle.tray_file.specs.declared.writer.write_refusal.WriteRefusal.TheVariants.{NoLetter, WrongLength, BadNote, TooSmall}
-use Rattle.tray_file.specs.writer.Writers.{tray_body, NoteWritten}
-use Rattle.tray_file.specs.writer.ReadingBack.{EntryComesBack, CardComesBack, UnderCard, CellsComeBack, AfterCardOrCells, NoteComesBack, IsWritten, AcceptedIsWritten}
+use Rattle.tray_file.specs.writer.Writers.{tray_body, CardWritten, CellsWritten, NoteWritten}
+use Rattle.tray_file.specs.writer.ReadingBack.{EntryComesBack, CardComesBack, UnderCard, CellsComeBack, AfterCardOrCells, NoteComesBack, Makes, IsMade, AcceptedIsMade}
 use Rattle.tray_file.proofs.writer_lemmas.Puts.{three_at_most}
 use Rattle.tray_file.proofs.writer_lemmas.WritableValues.{small_cells}
 
 pub numbers_short : (vs : List ℕ) → length (numbers vs) ≤ 3 * length vs
 numbers_short [] = omega arith
 numbers_short (v ∷ vs) = omega (arith, length-append (number_bytes v) (numbers vs), three_at_most v, numbers_short vs)
-
-card_in_turn : (turn : Turn) → task_for turn kinds.Card ≡ Some tasks.Card
-card_in_turn Start = refl
-card_in_turn (InTurn shape) = refl
-card_in_turn (AfterNote shape) = refl
 
 -- an entry that follows in every turn that is ready comes back
 comes_back : (Ready : TrayReader → Type 0) (e : Entry) → ((reader : TrayReader) → Ready reader → (next : Turn) × Follows reader.turn e next) → EntryComesBack Ready e
@@ -61,31 +54,16 @@ body_short : (kind origin : ℕ) (m : Meaning) (code : Code) → Checked m code 
 body_short kind origin m code checked =
     omega (arith, numbers_short (kind ∷ origin ∷ code.letters ∷ length code.locators ∷ code.rows ∷ (code.locators ++ code.multipliers)), length-append code.locators code.multipliers, checked.shape.sizes.most_cells, checked.shape.a_multiplier_each)
 
-card_follows : (card : AnyCard) (turn : Turn) → (next : Turn) × Follows turn (entry kinds.Card (tray_body card)) next
-card_follows (Prime card) turn =
-    let shape : CardShape = record { cells = length (card_code card).locators; letters = (card_code card).letters; few = card.checked.shape.sizes.most_cells } in (
-      InTurn shape,
-      record {
-        task = tasks.Card;
-        in_turn = card_in_turn turn;
-        small = body_short 1 card.field.prime (prime_meaning card.field) (card_code card) card.checked;
-        done = record { card = Prime card; read = record { checked = card.checked; written = refl }; shape = shape; shaped = record { cells = refl; letters = refl }; next = refl };
-      },
-    )
-card_follows (Binary card) turn =
-    let shape : CardShape = record { cells = length (card_code card).locators; letters = (card_code card).letters; few = card.checked.shape.sizes.most_cells } in (
-      InTurn shape,
-      record {
-        task = tasks.Card;
-        in_turn = card_in_turn turn;
-        small = body_short 2 card.field.modulus (binary_meaning card.field) (card_code card) card.checked;
-        done = record { card = Binary card; read = record { checked = card.checked; written = refl }; shape = shape; shaped = record { cells = refl; letters = refl }; next = refl };
-      },
-    )
-
 card_in : (card : AnyCard) → CardIn (tray_body card) card
 card_in (Prime card) = record { checked = card.checked; written = refl }
 card_in (Binary card) = record { checked = card.checked; written = refl }
+
+card_short : (card : AnyCard) → length (tray_body card) ≤ largest_number
+card_short (Prime card) = body_short 1 card.field.prime (prime_meaning card.field) (card_code card) card.checked
+card_short (Binary card) = body_short 2 card.field.modulus (binary_meaning card.field) (card_code card) card.checked
+
+card_follows : (card : AnyCard) (turn : Turn) → (next : Turn) × Follows turn (entry kinds.Card (tray_body card)) next
+card_follows card turn = (InTurn card, record { small = card_short card; done = (card, card_in card, refl) })
 
 pub card_comes_back : (card : AnyCard) → CardComesBack card
 card_comes_back card = record {
@@ -105,37 +83,31 @@ module _ (m : Meaning) (code : Code) (cells : List Cell) (checked : Checked m co
   cells_short : length (cells_body cells) ≤ largest_number
   cells_short = omega (arith, numbers_short (map cell_number cells), length-map cells cell_number, checked.shape.sizes.most_cells)
 
-  cells_done : (shape : CardShape) → ShapeOf code shape → CellsIn shape.cells shape.letters (cells_body cells) cells
-  cells_done shape shaped =
-      subst (λ n. CellsIn n shape.letters (cells_body cells) cells) (sym shaped.cells) (subst (λ n. CellsIn (length code.locators) n (cells_body cells) cells) (sym shaped.letters) cells_in)
+  cells_done : (card : AnyCard) → any_code card ≡ code → CellsUnder card (cells_body cells) cells
+  cells_done card is = subst (λ (c : Code). CellsIn (length c.locators) c.letters (cells_body cells) cells) (sym is) cells_in
 
-  cells_follow : (turn : Turn) (shape : CardShape) → ShapeOf code shape → task_for turn kinds.Cells ≡ Some (tasks.Cells shape) →
+  cells_follow : (turn : Turn) (card : AnyCard) → last_card turn ≡ Some card → any_code card ≡ code →
       (next : Turn) × Follows turn (entry kinds.Cells (cells_body cells)) next
-  cells_follow turn shape shaped in_turn =
-      (InTurn shape, record { task = tasks.Cells shape; in_turn = in_turn; small = cells_short; done = ((cells, cells_done shape shaped), refl) })
+  cells_follow Start card last is = absurd (none-some card last)
+  cells_follow (InTurn other) card last is =
+      (InTurn other, record { small = cells_short; done = ((cells, cells_done other (ap any_code (same_Some other card last) ∙ is)), refl) })
+  cells_follow (AfterNote other) card last is =
+      (InTurn other, record { small = cells_short; done = ((cells, cells_done other (ap any_code (same_Some other card last) ∙ is)), refl) })
 
   pub cells_come_back : CellsComeBack code cells
   cells_come_back = record {
-    answered = comes_back (UnderCard code) (entry kinds.Cells (cells_body cells))
-        (λ reader ready.
-        let shape = ready.0 in
-        ⊎_elim (λ e. cells_follow reader.turn shape ready.1 (ap (λ (t : Turn). task_for t kinds.Cells) e)) (λ e. cells_follow reader.turn shape ready.1 (ap (λ (t : Turn). task_for t kinds.Cells) e))
-        ready.2);
+    answered = comes_back (UnderCard code) (entry kinds.Cells (cells_body cells)) (λ reader ready. cells_follow reader.turn ready.0 ready.1 ready.2);
     read = λ buffer after r long read. cells_read_back code (cells_body cells) cells buffer after r cells_in long read;
   }
 
+note_follows : (note : List ℕ) → PlainNote note → (turn : Turn) (card : AnyCard) → turn ≡ InTurn card → (next : Turn) × Follows turn (entry kinds.Note note) next
+note_follows note plain turn card is = (
+  AfterNote card,
+  record { small = omega (arith, plain.short); done = subst (λ (t : Turn). Done kinds.Note t note (AfterNote card)) (sym is) (plain, refl) },
+)
+
 pub note_comes_back : (note : List ℕ) → PlainNote note → NoteComesBack note
-note_comes_back note plain =
-    comes_back AfterCardOrCells (entry kinds.Note note)
-    (λ reader ready. (
-      AfterNote ready.0,
-      record {
-        task = tasks.Note ready.0;
-        in_turn = ap (λ (t : Turn). task_for t kinds.Note) ready.1;
-        small = omega (arith, plain.short);
-        done = (plain, refl);
-      },
-    ))
+note_comes_back note plain = comes_back AfterCardOrCells (entry kinds.Note note) (λ reader ready. note_follows note plain reader.turn ready.0 ready.1)
 
 -- a fact that holds whatever is answered
 pub made_always : (r : Result ℕ WriteRefusal) (P : Type 0) → P → IfOk r (λ (n : ℕ). P)
@@ -145,36 +117,51 @@ made_always (Err refusal) P p = tt
 pub note_written : (note before after : List ℕ) (r : Result ℕ WriteRefusal) → PlainNote note → RecordWritten (kind_number kinds.Note) note before after r →
     NoteWritten note before after r
 note_written note before after (Ok n) plain put = (plain, put)
-note_written note before after (Err TooSmall) plain small = (plain, small)
+note_written note before after (Err TooSmall) plain small = (refl, plain, small.1)
 note_written note before after (Err NoLetter) plain never = never
 note_written note before after (Err WrongLength) plain never = never
 note_written note before after (Err BadNote) plain never = absurd never
 
-same_task : (o : Option Task) (a b : Task) → o ≡ Some a → o ≡ Some b → b ≡ a
-same_task o a b e f = cc
+-- a writer of records puts the entry's own bytes
+record_made : (kind : Kind) (body : List ℕ) → Makes (RecordWritten (kind_number kind) body) (entry kind body)
+record_made kind body before after (Ok n) room put = (ap (λ (n : ℕ). Ok n) put.size, put.bytes)
+record_made kind body before after (Err TooSmall) room small = absurd (omega (arith, small.1.small))
+record_made kind body before after (Err NoLetter) room never = absurd never
+record_made kind body before after (Err WrongLength) room never = absurd never
+record_made kind body before after (Err BadNote) room never = absurd never
 
-no_task : (a : Task) → None ≡ Some a → ⊥
-no_task a e = let never : ◌≡◌ {A = ℕ} 0 1 = cc in absurd (omega arith)
+cells_made : (card : AnyCard) (cells : List Cell) → length cells ≡ length (any_code card).locators → Lettered (any_code card).letters cells →
+    Makes (CellsWritten (any_code card) cells) (entry kinds.Cells (cells_body cells))
+cells_made card cells count lettered before after (Ok n) room put = record_made kinds.Cells (cells_body cells) before after (Ok n) room put.2
+cells_made card cells count lettered before after (Err TooSmall) room small = record_made kinds.Cells (cells_body cells) before after (Err TooSmall) room (small.0, small.3)
+cells_made card cells count lettered before after (Err WrongLength) room wrong = absurd (wrong.1 count)
+cells_made card cells count lettered before after (Err NoLetter) room wrong = absurd (wrong.2 lettered)
+cells_made card cells count lettered before after (Err BadNote) room never = absurd never
+
+note_made : (note : List ℕ) → PlainNote note → Makes (NoteWritten note) (entry kinds.Note note)
+note_made note plain before after (Ok n) room put = record_made kinds.Note note before after (Ok n) room put.1
+note_made note plain before after (Err BadNote) room wrong = absurd (wrong.1 plain)
+note_made note plain before after (Err TooSmall) room small = record_made kinds.Note note before after (Err TooSmall) room (small.0, small.2)
+note_made note plain before after (Err NoLetter) room never = absurd never
+note_made note plain before after (Err WrongLength) room never = absurd never
 
 card_is_written : (body : List ℕ) (card : AnyCard) → CardIn body card → body ≡ tray_body card
 card_is_written body (Prime card) is = is.written
 card_is_written body (Binary card) is = is.written
 
-done_is_written : (turn : Turn) (kind : Kind) (body : List ℕ) (next : Turn) (task : Task) → task_for turn kind ≡ Some task → Done task body next → IsWritten turn kind body
-done_is_written turn kinds.Card body next task in_turn done =
-    let card = subst (λ (t : Task). Done t body next) (same_task (task_for turn kinds.Card) tasks.Card task (card_in_turn turn) in_turn) done in
-    (card.card, card.read, card_is_written body card.card card.read)
-done_is_written Start kinds.Cells body next task in_turn done = absurd (no_task task in_turn)
-done_is_written (InTurn shape) kinds.Cells body next task in_turn done =
-    let read = subst (λ (t : Task). Done t body next) (same_task (Some (tasks.Cells shape)) (tasks.Cells shape) task refl in_turn) done in
-    (shape, refl, read.0.0, read.0.1.count, read.0.1.lettered, read.0.1.written)
-done_is_written (AfterNote shape) kinds.Cells body next task in_turn done =
-    let read = subst (λ (t : Task). Done t body next) (same_task (Some (tasks.Cells shape)) (tasks.Cells shape) task refl in_turn) done in
-    (shape, refl, read.0.0, read.0.1.count, read.0.1.lettered, read.0.1.written)
-done_is_written Start kinds.Note body next task in_turn done = absurd (no_task task in_turn)
-done_is_written (InTurn shape) kinds.Note body next task in_turn done =
-    (subst (λ (t : Task). Done t body next) (same_task (Some (tasks.Note shape)) (tasks.Note shape) task refl in_turn) done).0
-done_is_written (AfterNote shape) kinds.Note body next task in_turn done = absurd (no_task task in_turn)
+under_is_made : (card : AnyCard) (body : List ℕ) (cells : List Cell) → CellsUnder card body cells → Makes (CellsWritten (any_code card) cells) (entry kinds.Cells body)
+under_is_made card body cells is =
+    subst (λ (l : List ℕ). Makes (CellsWritten (any_code card) cells) (entry kinds.Cells l)) (sym is.written) (cells_made card cells is.count is.lettered)
 
-pub accepted_is_written : AcceptedIsWritten
-accepted_is_written turn e next follows = done_is_written turn e.kind e.body next follows.task follows.in_turn follows.done
+done_is_made : (kind : Kind) (turn : Turn) (body : List ℕ) (next : Turn) → Done kind turn body next → IsMade kind turn body
+done_is_made kinds.Card turn body next done =
+    (done.0, subst (λ (l : List ℕ). Makes (CardWritten done.0) (entry kinds.Card l)) (sym (card_is_written body done.0 done.1)) (record_made kinds.Card (tray_body done.0)))
+done_is_made kinds.Cells Start body next done = absurd done
+done_is_made kinds.Cells (InTurn card) body next done = (card, refl, done.0.0, under_is_made card body done.0.0 done.0.1)
+done_is_made kinds.Cells (AfterNote card) body next done = (card, refl, done.0.0, under_is_made card body done.0.0 done.0.1)
+done_is_made kinds.Note Start body next done = absurd done
+done_is_made kinds.Note (InTurn card) body next done = note_made body done.0
+done_is_made kinds.Note (AfterNote card) body next done = absurd done
+
+pub accepted_is_made : AcceptedIsMade
+accepted_is_made turn e next follows = done_is_made e.kind turn e.body next follows.done

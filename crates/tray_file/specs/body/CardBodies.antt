@@ -17,6 +17,7 @@ use Rattle.fields.specs.contracts.binary_field.BinaryFieldField.TheImpl as binar
 use Rattle.fields.specs.Kinds.{prime_kind, binary_kind}
 use Rattle.codes.specs.declared.card.Card as cards
 use Rattle.codes.specs.declared.card_cause.CardCause.TheVariants.{BadShape, NoAlphabet, BadLocator, BadMultiplier}
+use Rattle.tray_file.specs.fault.Layers.{body_fault_number}
 use Rattle.tray_file.specs.body.NumberLists.{numbers, after, Begins, NumberMissing}
 use Rattle.tray_file.specs.body.WholeLists.{ListRefused, Are}
 use Rattle.tray_file.specs.body.CardHeads.{head_count, head_numbers, HeadShape, FieldOf, HeadFits}
@@ -51,24 +52,30 @@ pub record Values (m : Meaning) (head : CardHead) (body : List ℕ) (code : Code
   pub lists : Are (code.locators ++ code.multipliers) (after (head_numbers head) body)
   pub written : body ≡ card_body head.kind head.origin code
 
--- the first rule that breaks once the head's field is known: shape and alphabet, then the lists as
--- numbers, then what they hold
+-- the first rule that breaks once the head's field is known: 13 for the shape, 14 for the alphabet,
+-- then 32 or 35 for the lists as numbers, then 15 or 16 for what they hold
 abbrev pub ValuesRefused : Meaning → CardHead → List ℕ → BodyFault → Type 0
 ValuesRefused m head body (BadNumber place) =
-    HeadFits m head
+    (body_fault_number (BadNumber place) ≡ 32)
+    × HeadFits m head
     × ListRefused (length (numbers (head_numbers head))) (head.cells + head.cells)
     (after (head_numbers head) body) (BadNumber place)
 ValuesRefused m head body BadBody =
-    HeadFits m head
+    (body_fault_number BadBody ≡ 35)
+    × HeadFits m head
     × ListRefused (length (numbers (head_numbers head))) (head.cells + head.cells)
     (after (head_numbers head) body) BadBody
-ValuesRefused m head body (Card BadShape) = HeadShape head → ⊥
+ValuesRefused m head body (Card BadShape) =
+    (body_fault_number (Card BadShape) ≡ 13) × (HeadShape head → ⊥)
 ValuesRefused m head body (Card NoAlphabet) =
-    HeadShape head × (Alphabet m.arithmetic head.letters → ⊥)
+    (body_fault_number (Card NoAlphabet) ≡ 14)
+    × HeadShape head × (Alphabet m.arithmetic head.letters → ⊥)
 ValuesRefused m head body (Card BadLocator) =
-    (code : Code) × Values m head body code × (LocatorsFit m code.locators → ⊥)
+    (body_fault_number (Card BadLocator) ≡ 15)
+    × (code : Code) × Values m head body code × (LocatorsFit m code.locators → ⊥)
 ValuesRefused m head body (Card BadMultiplier) =
-    (code : Code) × Values m head body code × LocatorsFit m code.locators
+    (body_fault_number (Card BadMultiplier) ≡ 16)
+    × (code : Code) × Values m head body code × LocatorsFit m code.locators
     × (MultipliersFit m code.multipliers → ⊥)
 ValuesRefused m head body BadNote = ⊥
 ValuesRefused m head body (Field fault) = ⊥
@@ -83,18 +90,26 @@ CardOver m field head body (Ok card) =
     × (body ≡ card_body head.kind head.origin (card_code card))
 CardOver m field head body (Err fault) = ValuesRefused m head body fault
 
--- the head is cut short, or names no field
+-- The first that applies: 32 or 35 where five numbers do not stand first, 10 where no kind of field
+-- has the head's number, 11 where the prime kind makes no field of its origin, 12 where the binary
+-- kind makes none.
 abbrev pub HeadRefused : List ℕ → BodyFault → Type 0
-HeadRefused body (BadNumber place) = NumberMissing 0 head_count body (BadNumber place)
-HeadRefused body BadBody = NumberMissing 0 head_count body BadBody
+HeadRefused body (BadNumber place) =
+    (body_fault_number (BadNumber place) ≡ 32)
+    × NumberMissing 0 head_count body (BadNumber place)
+HeadRefused body BadBody =
+    (body_fault_number BadBody ≡ 35) × NumberMissing 0 head_count body BadBody
 HeadRefused body (Field NoSuchField) =
-    (head : CardHead) × Begins (head_numbers head) body × (head.kind ≢ prime_kind)
+    (body_fault_number (Field NoSuchField) ≡ 10)
+    × (head : CardHead) × Begins (head_numbers head) body × (head.kind ≢ prime_kind)
     × (head.kind ≢ binary_kind)
 HeadRefused body (Field (Made NoPrime)) =
-    (head : CardHead) × Begins (head_numbers head) body × (head.kind ≡ prime_kind)
+    (body_fault_number (Field (Made NoPrime)) ≡ 11)
+    × (head : CardHead) × Begins (head_numbers head) body × (head.kind ≡ prime_kind)
     × (Listed head.origin → ⊥)
 HeadRefused body (Field (Made BadModulus)) =
-    (head : CardHead) × Begins (head_numbers head) body × (head.kind ≡ binary_kind)
+    (body_fault_number (Field (Made BadModulus)) ≡ 12)
+    × (head : CardHead) × Begins (head_numbers head) body × (head.kind ≡ binary_kind)
     × NoModulus head.origin
 HeadRefused body BadNote = ⊥
 HeadRefused body (Card cause) = ⊥

@@ -1,9 +1,13 @@
 -- The bodies of cells records.
 use Rattle.std.specs.Prelude.{◌≡◌, ℕ, zero, suc, ◌+◌, ◌<◌, ◌≤◌, List, map, length, Some, None, Ok, Err, Option, Result, ◌≢◌, slice_index}
+use Rattle.codes.specs.AnyCards.{any_code}
 use Rattle.codes.specs.Code.{Code}
 use Rattle.codes.specs.Cells.{blank_cell, noted_cell}
 use Rattle.codes.specs.Standings.{Lettered}
+use Rattle.codes.specs.declared.any_card.AnyCard.{AnyCard}
 use Rattle.codes.specs.declared.cell.Cell.{Cell}
+use Rattle.tray_file.specs.fault.Layers.{body_fault_number}
+use Rattle.tray_file.specs.body.CellRefusals.{cells_refusal_number}
 use Rattle.tray_file.specs.body.NumberLists.{numbers, Small}
 use Rattle.tray_file.specs.body.WholeLists.{ListRefused, Are}
 use Rattle.tray_file.specs.declared.fault.body_fault.BodyFault.{BodyFault}
@@ -51,32 +55,50 @@ pub record NoLetters (n letters : ℕ) (body : List ℕ) : Type 0 where
   pub count : length values ≡ n
   pub above : UpTo letters values → ⊥
 
--- The first that applies: the body is not n numbers, or one of them stands for no letter.
+-- The first that applies: 32 or 35 where the body is not n numbers, or 22 where one of them stands
+-- for no letter.
 abbrev pub CellsRefused : ℕ → ℕ → List ℕ → BodyFault → Type 0
-CellsRefused n letters body (BadNumber place) = ListRefused 0 n body (BadNumber place)
-CellsRefused n letters body BadBody = ListRefused 0 n body BadBody
-CellsRefused n letters body (Tag NoLetter) = NoLetters n letters body
+CellsRefused n letters body (BadNumber place) =
+    (body_fault_number (BadNumber place) ≡ 32) × ListRefused 0 n body (BadNumber place)
+CellsRefused n letters body BadBody =
+    (body_fault_number BadBody ≡ 35) × ListRefused 0 n body BadBody
+CellsRefused n letters body (Tag NoLetter) =
+    (body_fault_number (Tag NoLetter) ≡ 22) × NoLetters n letters body
 CellsRefused n letters body BadNote = ⊥
 CellsRefused n letters body (Field fault) = ⊥
 CellsRefused n letters body (Card cause) = ⊥
+
+-- the same of the n and the letters of a card
+abbrev pub CellsUnder : AnyCard → List ℕ → List Cell → Type 0
+CellsUnder card body cells =
+    CellsIn (length (any_code card).locators) (any_code card).letters body cells
+
+abbrev pub CellsRefusedUnder : AnyCard → List ℕ → BodyFault → Type 0
+CellsRefusedUnder card body fault =
+    CellsRefused (length (any_code card).locators) (any_code card).letters body fault
 
 abbrev pub CellNumbersRead : ℕ → ℕ → List ℕ → Result (List ℕ) BodyFault → Type 0
 CellNumbersRead n letters body (Ok list) = Are list body × UpTo letters list × (length list ≡ n)
 CellNumbersRead n letters body (Err fault) = CellsRefused n letters body fault
 
--- Some cells have this body, or it is refused.
-abbrev pub CellsChecked : ℕ → ℕ → List ℕ → Result (Unit {0}) BodyFault → Type 0
-CellsChecked n letters body (Ok done) = (cells : List Cell) × CellsIn n letters body cells
-CellsChecked n letters body (Err fault) = CellsRefused n letters body fault
+-- The list holds the cells whose body this is under the card, or the body is refused and the list
+-- is as it was.
+abbrev pub CellsListed : AnyCard → List ℕ → List Cell → List Cell
+    → Result (Unit {0}) BodyFault → Type 0
+CellsListed card body before after (Ok done) = CellsUnder card body after
+CellsListed card body before after (Err fault) =
+    CellsRefusedUnder card body fault × (after ≡ before)
 
--- The buffer holds the cells whose body this is under the card, or a refusal is given in its case
--- and the buffer is as it was.
+-- The buffer holds the cells whose body this is under the card. Else the buffer is as it was: 25
+-- where its length is wrong, or the number of the body's fault.
 abbrev pub CellsReadInto : Code → List ℕ → List Cell → List Cell
     → Result (Unit {0}) CellsRefusal → Type 0
 CellsReadInto code body before after (Ok done) =
     (length before ≡ length code.locators) × CellsIn (length code.locators) code.letters body after
 CellsReadInto code body before after (Err WrongLength) =
-    (length before ≢ length code.locators) × (after ≡ before)
+    (cells_refusal_number WrongLength ≡ 25)
+    × (length before ≢ length code.locators) × (after ≡ before)
 CellsReadInto code body before after (Err (Body fault)) =
-    (length before ≡ length code.locators)
+    (cells_refusal_number (Body fault) ≡ body_fault_number fault)
+    × (length before ≡ length code.locators)
     × CellsRefused (length code.locators) code.letters body fault × (after ≡ before)

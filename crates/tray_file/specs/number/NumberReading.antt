@@ -1,6 +1,7 @@
 -- What the number reader answers.
 use Rattle.std.specs.Prelude.{◌≡◌, ℕ, ◌+◌, ◌<◌, ◌≤◌, List, ◌++◌, length, drop, Ok, Err, Result, slice_index}
 use Rattle.tray_file.specs.number.Numbers.{largest_number, most_before, number_bytes}
+use Rattle.tray_file.specs.number.NumberCauses.{number_cause_number}
 use Rattle.tray_file.specs.declared.number.cause.NumberCause.{NumberCause}
 use Rattle.tray_file.specs.declared.number.cause.NumberCause.TheVariants.{CutOff, BadNumber}
 use Rattle.tray_file.specs.declared.number.reading.NumberRead.{NumberRead}
@@ -20,10 +21,10 @@ pub record NoNumber (bytes : List ℕ) : Type 0 where
   pub none : (value : ℕ) → StandsFirst value bytes → ⊥
   pub whole : EndsInside bytes → ⊥
 
--- why the bytes do not begin with a number
+-- why the bytes do not begin with a number: 31 where they end inside one, else 32
 abbrev pub NumberRefused : List ℕ → NumberCause → Type 0
-NumberRefused bytes CutOff = EndsInside bytes
-NumberRefused bytes BadNumber = NoNumber bytes
+NumberRefused bytes CutOff = (number_cause_number CutOff ≡ 31) × EndsInside bytes
+NumberRefused bytes BadNumber = (number_cause_number BadNumber ≡ 32) × NoNumber bytes
 
 -- The number that stands first in the bytes from a place on, with the place after it, or why there
 -- is none.

@@ -1,5 +1,5 @@
 -- How a number is written.
-use Rattle.std.specs.Prelude.{ℕ, zero, suc, ◌+◌, ◌/◌, ◌%◌, cond, List, [], ◌∷◌, nat_lt}
+use Rattle.std.specs.Prelude.{ℕ, zero, suc, ◌+◌, ◌*◌, ◌/◌, ◌%◌, cond, List, [], ◌∷◌, nat_lt}
 
 -- the largest number
 abbrev pub largest_number : ℕ
@@ -17,3 +17,8 @@ groups (suc before) v = cond (nat_lt v 128) (v ∷ []) ((128 + v % 128) ∷ grou
 -- the bytes of a number, in as few groups as hold it
 unfoldable pub number_bytes : ℕ → List ℕ
 number_bytes v = groups most_before v
+
+-- what bytes are worth: each byte's low seven bits, the lowest group first
+abbrev pub worth : List ℕ → ℕ
+worth [] = 0
+worth (byte ∷ rest) = byte % 128 + 128 * worth rest

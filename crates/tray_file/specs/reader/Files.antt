@@ -1,16 +1,13 @@
 -- A whole file: the records that it has, and how it ends.
 use Rattle.std.specs.Prelude.{◌≡◌, ℕ, ◌+◌, ◌<◌, ◌≤◌, ◌⊎◌, List, [], ◌∷◌, length, drop, Some, None, Option}
 use Rattle.tray_file.specs.declared.fault.file_cause.FileCause.TheVariants.{LongFile}
-use Rattle.tray_file.specs.fault.Faults.{fault_at}
+use Rattle.tray_file.specs.fault.Faults.{fault_at, fault_number}
+use Rattle.tray_file.specs.reader.FileLimits.{longest_file}
 use Rattle.tray_file.specs.reader.Entries.{Entry, entry_bytes}
 use Rattle.tray_file.specs.reader.Records.{EntryFirst, Follows, RecordRefused}
 use Rattle.tray_file.specs.declared.fault.Fault.{Fault}
 use Rattle.tray_file.specs.declared.reader.turn.Turn.{Turn}
 use Rattle.tray_file.specs.declared.reader.turn.Turn.TheVariants.{Start}
-
--- the most bytes that a file may have
-abbrev pub longest_file : ℕ
-longest_file = 60000
 
 -- The bytes from a place on have these records, one after another, each in its turn, and end there,
 -- or have a fault where the next should stand.
@@ -28,7 +25,8 @@ FileFrom turn place bytes (e ∷ es) ending =
 -- from the start on.
 abbrev pub File : List ℕ → List Entry → Option Fault → Type 0
 File bytes es ending =
-    ((longest_file < length bytes) × (es ≡ []) × (ending ≡ Some (fault_at 0 LongFile)))
+    ((longest_file < length bytes) × (es ≡ []) × (ending ≡ Some (fault_at 0 LongFile))
+    × (fault_number (fault_at 0 LongFile) ≡ 37))
     ⊎ ((length bytes ≤ longest_file) × FileFrom Start 0 bytes es ending)
 
 -- A file has only one list of records and only one end.

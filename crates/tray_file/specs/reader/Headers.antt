@@ -1,17 +1,17 @@
 -- A record's kind and length.
-use Rattle.std.specs.Prelude.{◌≡◌, ℕ, ◌+◌, ◌<◌, ◌≤◌, ◌⊎◌, List, length, drop, Some, None, Ok, Err, Result}
+use Rattle.std.specs.Prelude.{◌≡◌, ℕ, ◌+◌, ◌<◌, ◌≤◌, ◌⊎◌, true, false, List, length, drop, Ok, Err, Result}
 use Rattle.tray_file.specs.number.Numbers.{number_bytes}
+use Rattle.tray_file.specs.number.NumberCauses.{number_cause_number}
 use Rattle.tray_file.specs.number.NumberReading.{StandsFirst, NumberRefused}
 use Rattle.tray_file.specs.declared.number.cause.NumberCause.{NumberCause}
 use Rattle.tray_file.specs.declared.number.reading.NumberRead.{NumberRead}
 use Rattle.tray_file.specs.declared.fault.file_cause.FileCause.TheVariants.{CutOff, StrangeRecord, OutOfTurn}
-use Rattle.tray_file.specs.fault.Faults.{fault_at, number_fault}
+use Rattle.tray_file.specs.fault.Faults.{fault_at, fault_number, number_fault}
 use Rattle.tray_file.specs.reader.RecordKinds.{kind_number}
-use Rattle.tray_file.specs.reader.Turns.{task_for}
+use Rattle.tray_file.specs.reader.Turns.{is_in_turn, TaskFor}
 use Rattle.tray_file.specs.declared.fault.Fault.{Fault}
 use Rattle.tray_file.specs.declared.reader.kind.Kind.{Kind}
 use Rattle.tray_file.specs.declared.reader.turn.Turn.{Turn}
-use Rattle.tray_file.specs.declared.reader.turn.Task.{Task}
 use Rattle.tray_file.specs.declared.reader.header.Header.{Header}
 
 -- what follows a number
@@ -23,6 +23,7 @@ pub record NoKind (place : ℕ) (bytes : List ℕ) (fault : Fault) : Type 0 wher
   pub cause : NumberCause
   pub refused : NumberRefused bytes cause
   pub is : fault ≡ number_fault place place cause
+  pub number_is : fault_number fault ≡ number_cause_number cause
 
 -- the number of no kind
 pub record StrangeKind (place : ℕ) (bytes : List ℕ) (fault : Fault) : Type 0 where
@@ -30,37 +31,39 @@ pub record StrangeKind (place : ℕ) (bytes : List ℕ) (fault : Fault) : Type 0
   pub stands : StandsFirst number bytes
   pub strange : (kind : Kind) → number ≡ kind_number kind → ⊥
   pub is : fault ≡ fault_at place StrangeRecord
+  pub number_is : fault_number fault ≡ 33
 
 -- a kind that is out of turn
 pub record NotInTurn (turn : Turn) (place : ℕ) (bytes : List ℕ) (fault : Fault) : Type 0 where
   pub kind : Kind
   pub stands : StandsFirst (kind_number kind) bytes
-  pub out : task_for turn kind ≡ None
+  pub out : is_in_turn kind turn ≡ false
   pub is : fault ≡ fault_at place OutOfTurn
+  pub number_is : fault_number fault ≡ 34
 
 -- a kind in turn stands first
-pub record KindStands (turn : Turn) (bytes : List ℕ) (kind : Kind) (task : Task) : Type 0 where
+pub record KindStands (turn : Turn) (bytes : List ℕ) (kind : Kind) : Type 0 where
   pub stands : StandsFirst (kind_number kind) bytes
-  pub in_turn : task_for turn kind ≡ Some task
+  pub in_turn : is_in_turn kind turn ≡ true
 
 -- no number stands where the length should
 pub record NoLength (turn : Turn) (place : ℕ) (bytes : List ℕ) (fault : Fault) : Type 0 where
   pub kind : Kind
-  pub task : Task
-  pub first : KindStands turn bytes kind task
+  pub first : KindStands turn bytes kind
   pub cause : NumberCause
   pub refused : NumberRefused (after_number (kind_number kind) bytes) cause
   pub is : fault ≡ number_fault place (place + length (number_bytes (kind_number kind))) cause
+  pub number_is : fault_number fault ≡ number_cause_number cause
 
 -- the file ends before the body does
 pub record NoBody (turn : Turn) (place : ℕ) (bytes : List ℕ) (fault : Fault) : Type 0 where
   pub kind : Kind
-  pub task : Task
-  pub first : KindStands turn bytes kind task
+  pub first : KindStands turn bytes kind
   pub size : ℕ
   pub sized : StandsFirst size (after_number (kind_number kind) bytes)
   pub missing : length (after_number size (after_number (kind_number kind) bytes)) < size
   pub is : fault ≡ fault_at place CutOff
+  pub number_is : fault_number fault ≡ 31
 
 abbrev pub HeaderRefused : Turn → ℕ → List ℕ → Fault → Type 0
 HeaderRefused turn place bytes fault =
@@ -71,7 +74,8 @@ HeaderRefused turn place bytes fault =
 
 -- a kind in turn, a length, and so many bytes after it
 pub record HeaderIn (turn : Turn) (place : ℕ) (bytes : List ℕ) (header : Header) : Type 0 where
-  pub first : KindStands turn bytes header.kind header.task
+  pub first : KindStands turn bytes header.kind
+  pub task : TaskFor header.kind turn header.task
   pub size : ℕ
   pub sized : StandsFirst size (after_number (kind_number header.kind) bytes)
   pub room : size ≤ length (after_number size (after_number (kind_number header.kind) bytes))

@@ -1,59 +1,58 @@
 -- A record in its turn.
-use Rattle.std.specs.Prelude.{◌≡◌, ℕ, ◌+◌, ◌≤◌, ◌⊎◌, List, ◌++◌, length, drop, Some, Ok, Err, Result}
+use Rattle.std.specs.Prelude.{◌≡◌, ℕ, ◌+◌, ◌≤◌, ◌⊎◌, List, ◌++◌, length, drop, Ok, Err, Result}
 use Rattle.std.specs.List.{between}
 use Rattle.codes.specs.declared.cell.Cell.{Cell}
-use Rattle.tray_file.specs.number.Numbers.{largest_number, number_bytes}
+use Rattle.tray_file.specs.number.Numbers.{largest_number}
 use Rattle.tray_file.specs.body.CardBodies.{CardIn, CardRead}
-use Rattle.codes.specs.AnyCards.{any_code}
-use Rattle.tray_file.specs.body.CardShapes.{ShapeOf}
-use Rattle.tray_file.specs.body.CellBodies.{CellsIn, CellsRefused}
+use Rattle.tray_file.specs.body.CellBodies.{CellsUnder, CellsRefusedUnder}
 use Rattle.tray_file.specs.body.Notes.{PlainNote}
 use Rattle.codes.specs.declared.any_card.AnyCard.{AnyCard}
-use Rattle.tray_file.specs.declared.body.card_shape.CardShape.{CardShape}
 use Rattle.tray_file.specs.declared.fault.body_fault.BodyFault.{BodyFault}
 use Rattle.tray_file.specs.declared.fault.body_fault.BodyFault.TheVariants.{BadNote}
-use Rattle.tray_file.specs.fault.Faults.{body_fault}
-use Rattle.tray_file.specs.reader.RecordKinds.{kind_number}
-use Rattle.tray_file.specs.reader.Turns.{task_for}
-use Rattle.tray_file.specs.reader.Entries.{Entry, entry, entry_bytes}
+use Rattle.tray_file.specs.fault.Layers.{body_fault_number}
+use Rattle.tray_file.specs.fault.Faults.{body_fault, fault_number}
+use Rattle.tray_file.specs.reader.Turns.{turn_after}
+use Rattle.tray_file.specs.reader.Entries.{Entry, entry, entry_bytes, body_place}
 use Rattle.tray_file.specs.reader.Headers.{HeaderRefused}
 use Rattle.tray_file.specs.declared.fault.Fault.{Fault}
+use Rattle.tray_file.specs.declared.reader.kind.Kind.{Kind}
+use Rattle.tray_file.specs.declared.reader.kind.Kind.TheVariants.{Card, Cells, Note}
 use Rattle.tray_file.specs.declared.reader.turn.Turn.{Turn}
-use Rattle.tray_file.specs.declared.reader.turn.Turn.TheVariants.{InTurn, AfterNote}
-use Rattle.tray_file.specs.declared.reader.turn.Task.{Task}
-use Rattle.tray_file.specs.declared.reader.turn.Task.TheVariants.{Card, Cells, Note}
+use Rattle.tray_file.specs.declared.reader.turn.Turn.TheVariants.{Start, InTurn, AfterNote}
 use Rattle.tray_file.specs.declared.reader.record_reading.Step.{Step}
 
--- a card's body, and the shape that cells after it have
-pub record NewCard (body : List ℕ) (turn : Turn) : Type 0 where
-  pub card : AnyCard
-  pub read : CardIn body card
-  pub shape : CardShape
-  pub shaped : ShapeOf (any_code card) shape
-  pub next : turn ≡ InTurn shape
+-- A body in its turn, and what is in turn after it: a card, which replaces the last one, cells
+-- under the last card, or a plain note. Out of turn there is none.
+abbrev pub Done : Kind → Turn → List ℕ → Turn → Type 0
+Done Card turn body next = (card : AnyCard) × CardIn body card × (next ≡ InTurn card)
+Done Cells Start body next = ⊥
+Done Cells (InTurn card) body next =
+    ((cells : List Cell) × CellsUnder card body cells) × (next ≡ InTurn card)
+Done Cells (AfterNote card) body next =
+    ((cells : List Cell) × CellsUnder card body cells) × (next ≡ InTurn card)
+Done Note Start body next = ⊥
+Done Note (InTurn card) body next = PlainNote body × (next ≡ AfterNote card)
+Done Note (AfterNote card) body next = ⊥
 
--- A body in its turn, and what is in turn after it: a new card replaces the old one.
-abbrev pub Done : Task → List ℕ → Turn → Type 0
-Done Card body turn = NewCard body turn
-Done (Cells shape) body turn =
-    ((cells : List Cell) × CellsIn shape.cells shape.letters body cells) × (turn ≡ InTurn shape)
-Done (Note shape) body turn = PlainNote body × (turn ≡ AfterNote shape)
+-- why a note is refused
+abbrev pub NoteRefused : List ℕ → BodyFault → Type 0
+NoteRefused body fault =
+    (body_fault_number fault ≡ 36) × (PlainNote body → ⊥) × (fault ≡ BadNote)
 
-abbrev pub BodyRefused : Task → List ℕ → BodyFault → Type 0
-BodyRefused Card body fault = CardRead body (Err fault)
-BodyRefused (Cells shape) body fault = CellsRefused shape.cells shape.letters body fault
-BodyRefused (Note shape) body fault = (PlainNote body → ⊥) × (fault ≡ BadNote)
-
-abbrev pub BodyChecked : Task → List ℕ → Result Turn BodyFault → Type 0
-BodyChecked task body (Ok turn) = Done task body turn
-BodyChecked task body (Err fault) = BodyRefused task body fault
+-- A body in its turn that is refused.
+abbrev pub BodyRefused : Kind → Turn → List ℕ → BodyFault → Type 0
+BodyRefused Card turn body fault = CardRead body (Err fault)
+BodyRefused Cells Start body fault = ⊥
+BodyRefused Cells (InTurn card) body fault = CellsRefusedUnder card body fault
+BodyRefused Cells (AfterNote card) body fault = CellsRefusedUnder card body fault
+BodyRefused Note Start body fault = ⊥
+BodyRefused Note (InTurn card) body fault = NoteRefused body fault
+BodyRefused Note (AfterNote card) body fault = ⊥
 
 -- an entry in its turn, and what is in turn after it
 pub record Follows (turn : Turn) (e : Entry) (next : Turn) : Type 0 where
-  pub task : Task
-  pub in_turn : task_for turn e.kind ≡ Some task
   pub small : length e.body ≤ largest_number
-  pub done : Done task e.body next
+  pub done : Done e.kind turn e.body next
 
 -- the bytes begin with the entry's
 abbrev pub EntryFirst : Entry → List ℕ → Type 0
@@ -64,14 +63,10 @@ pub record BodyWrong (turn : Turn) (place : ℕ) (bytes : List ℕ) (fault : Fau
   pub whole : Entry
   pub first : EntryFirst whole bytes
   pub small : length whole.body ≤ largest_number
-  pub task : Task
-  pub in_turn : task_for turn whole.kind ≡ Some task
   pub cause : BodyFault
-  pub refused : BodyRefused task whole.body cause
-  pub is : fault
-      ≡ body_fault place
-      (place + length (number_bytes (kind_number whole.kind))
-      + length (number_bytes (length whole.body))) cause
+  pub refused : BodyRefused whole.kind turn whole.body cause
+  pub is : fault ≡ body_fault place (body_place place whole) cause
+  pub number_is : fault_number fault ≡ body_fault_number cause
 
 -- The fault of the bytes at a place where no record stands in its turn.
 abbrev pub RecordRefused : Turn → ℕ → List ℕ → Fault → Type 0
@@ -85,14 +80,29 @@ pub record RecordIn (turn : Turn) (place : ℕ) (bytes : List ℕ) (e : Entry) (
   pub follows : Follows turn e next
   pub end_place : end ≡ place + length (entry_bytes e)
 
+-- The cells that the reader keeps after a record: those of a cells record; any other leaves them.
+abbrev pub KeptCells : Kind → Turn → List ℕ → List Cell → List Cell → Type 0
+KeptCells Card next body before after = after ≡ before
+KeptCells Note next body before after = after ≡ before
+KeptCells Cells Start body before after = ⊥
+KeptCells Cells (InTurn card) body before after = CellsUnder card body after
+KeptCells Cells (AfterNote card) body before after = ⊥
+
 -- the same, with the body as a part of the file
-pub record StepIn (turn : Turn) (place : ℕ) (file : List ℕ) (step : Step) : Type 0 where
+pub record StepIn (turn : Turn) (place : ℕ) (file : List ℕ) (before after : List Cell)
+    (step : Step) : Type 0 where
   pub order : step.body ≤ step.end
   pub within : step.end ≤ length file
+  pub place_is : step.body
+      ≡ body_place place (entry step.kind (between step.body step.end file))
   pub here : RecordIn turn place (drop place file)
-      (entry step.kind (between step.body step.end file)) step.end step.turn
+      (entry step.kind (between step.body step.end file)) step.end (turn_after turn step.passed)
+  pub cells : KeptCells step.kind (turn_after turn step.passed)
+      (between step.body step.end file) before after
 
--- The record that begins at a place of the file, in its turn, or the fault of that place.
-abbrev pub RecordRead : Turn → ℕ → List ℕ → Result Step Fault → Type 0
-RecordRead turn place file (Ok step) = StepIn turn place file step
-RecordRead turn place file (Err fault) = RecordRefused turn place (drop place file) fault
+-- The record that begins at a place of the file, in its turn, or the fault of that place. A fault
+-- leaves the cells.
+abbrev pub RecordRead : Turn → ℕ → List ℕ → List Cell → List Cell → Result Step Fault → Type 0
+RecordRead turn place file before after (Ok step) = StepIn turn place file before after step
+RecordRead turn place file before after (Err fault) =
+    RecordRefused turn place (drop place file) fault × (after ≡ before)

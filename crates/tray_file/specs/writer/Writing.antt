@@ -6,6 +6,7 @@ use Rattle.tray_file.specs.writer.Pages.{Added}
 use Rattle.tray_file.specs.declared.writer.page.Page.{Page}
 use Rattle.tray_file.specs.body.NumberLists.{numbers, Small}
 use Rattle.tray_file.specs.reader.Entries.{record_bytes}
+use Rattle.tray_file.specs.writer.WriteRefusals.{write_refusal_number}
 use Rattle.tray_file.specs.declared.writer.write_refusal.WriteRefusal.{WriteRefusal}
 use Rattle.tray_file.specs.declared.writer.write_refusal.WriteRefusal.TheVariants.{NoLetter, WrongLength, BadNote, TooSmall}
 use Rattle.tray_file.specs.declared.writer.record_writing.BodyNumbers.{BodyNumbers}
@@ -51,9 +52,11 @@ HeaderWritten kind size before after (Err NoLetter) = ⊥
 HeaderWritten kind size before after (Err WrongLength) = ⊥
 HeaderWritten kind size before after (Err BadNote) = ⊥
 
+-- The record stands at the buffer's front; or 38 where the buffer can't take it, and is as it was.
 abbrev pub RecordWritten : ℕ → List ℕ → List ℕ → List ℕ → Result ℕ WriteRefusal → Type 0
 RecordWritten kind body before after (Ok written) = Put kind body before after written
-RecordWritten kind body before after (Err TooSmall) = NoRoom kind body before after
+RecordWritten kind body before after (Err TooSmall) =
+    (write_refusal_number TooSmall ≡ 38) × NoRoom kind body before after
 RecordWritten kind body before after (Err NoLetter) = ⊥
 RecordWritten kind body before after (Err WrongLength) = ⊥
 RecordWritten kind body before after (Err BadNote) = ⊥

@@ -1,6 +1,6 @@
 // Reads a card from a record's body.
 ghost use Rattle.tray_file.specs.body.CardBodies.{HeadStands, CardOver, CardRead};
-ghost use Rattle.tray_file.specs.body.SameCards.{CardReadsBack};
+ghost use Rattle.tray_file.specs.body.OneReading.{CardReadsBack, OneCardAnswer};
 
 use crate::body::card_head::{ReadHead, read_head};
 use crate::body::number_list::ListAt;
@@ -15,6 +15,7 @@ use fields::{BinaryField, LetteredField, NoSuchField, PrimeField};
 pub fn read_card(body: &[u8]) -> Result<AnyCard, BodyFault>
     ensures read { CardRead body.now result }
     ensures back { CardReadsBack }
+    ensures one { OneCardAnswer }
 {
     let read = read_head(body)?;
     let origin = read.head.origin;

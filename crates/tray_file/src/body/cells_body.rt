@@ -1,24 +1,33 @@
 // Reads cells from a record's body: 0 for a blank, and letter + 1 otherwise.
 ghost use Rattle.std.specs.Prelude.{◌≡◌, length, Decides};
 ghost use Rattle.codes.specs.Cards.{card_code};
-ghost use Rattle.tray_file.specs.body.CellBodies.{UpTo, cell_of_number, cells_of, CellNumbersRead, CellsChecked, CellsReadInto};
-ghost use Rattle.tray_file.specs.body.SameCards.{CellsReadBack};
+ghost use Rattle.tray_file.specs.body.CellBodies.{UpTo, cell_of_number, cells_of, CellNumbersRead, CellsListed, CellsReadInto};
+ghost use Rattle.tray_file.specs.body.OneReading.{CellsReadBack, OneCellsAnswer};
 
 use crate::body::card_shape::CardShape;
 use crate::body::cells_refusal::CellsRefusal;
 use crate::body::number_list::ListAt;
-use crate::body::shape_of_card::shape_of;
+use crate::body::shape_of_card::{shape_of, shape_of_any};
 use crate::fault::{BodyFault, TagCause};
 use algebra::LARGEST_CELLS;
-use codes::{Card, Cell};
+use arrayvec::ArrayVec;
+use codes::{AnyCard, Card, Cell};
 use fields::LetteredField;
 use shortlist::ShortList;
 
-// Refuses a body that is not that of cells under a card of this shape.
-pub(crate) fn check_cells(shape: CardShape, body: &[u8]) -> Result<(), BodyFault>
-    ensures { CellsChecked shape.cells shape.letters body.now result }
+// As many cells as a card may have, in an array of their own.
+pub(crate) type CellList = ArrayVec<Cell, LARGEST_CELLS>;
+
+// Puts the cells of a body under its card into the list, in place of those before. A body that is
+// refused leaves the list as it was.
+pub(crate) fn list_cells(card: &AnyCard, body: &[u8], cells: &mut CellList) -> Result<(), BodyFault>
+    ensures { CellsListed card.now body.now cells.old.items cells.new.items result }
 {
-    cell_numbers(shape, body)?;
+    let numbers = cell_numbers(shape_of_any(card), body)?;
+    cells.clear();
+    for number in numbers.as_slice() {
+        cells.push(cell_of(*number));
+    }
     Ok(())
 }
 
@@ -32,6 +41,7 @@ pub fn read_cells<F: LetteredField>(
 ) -> Result<(), CellsRefusal>
     ensures read { CellsReadInto (card_code card.now) body.now cells.old cells.new result }
     ensures back { CellsReadBack }
+    ensures one { OneCellsAnswer }
 {
     let shape = shape_of(card);
     if cells.len() != shape.cells {

@@ -1,5 +1,6 @@
 // Reads the number that begins at a place.
 ghost use Rattle.std.specs.Prelude.{drop};
+ghost use Rattle.tray_file.specs.number.BadNumbers.{NumberRules};
 ghost use Rattle.tray_file.specs.number.NumberReading.{NumberAnswered};
 
 use crate::number::cause::NumberCause;
@@ -18,7 +19,8 @@ pub(crate) struct NumberRead {
 // The number whose first byte is at `start`. A slice and a place in it, and no cut slice: a fault
 // names the place.
 pub(crate) fn read_number(bytes: &[u8], start: usize) -> Result<NumberRead, NumberCause>
-    ensures { NumberAnswered (drop start bytes.now) start result }
+    ensures read { NumberAnswered (drop start bytes.now) start result }
+    ensures rules { NumberRules }
 {
     if start >= bytes.len() {
         return Err(NumberCause::CutOff);

@@ -1,7 +1,7 @@
 // Writes a number at a place.
 ghost use Rattle.std.specs.Prelude.{◌≡◌, length};
 ghost use Rattle.tray_file.specs.number.Numbers.{number_bytes};
-ghost use Rattle.tray_file.specs.number.NumberWriting.{write_cause_number, NumberWritten, ReadsBack};
+ghost use Rattle.tray_file.specs.number.NumberWriting.{write_cause_number, NumberWritten, ReadsBack, WrittenWorth};
 
 use crate::number::limits::LARGEST_NUMBER;
 use thiserror::Error;
@@ -43,6 +43,7 @@ pub(crate) fn number_length(value: u32) -> usize
 pub(crate) fn write_number(value: u32, buffer: &mut [u8], start: usize) -> Result<usize, WriteCause>
     ensures written { NumberWritten value start buffer.old buffer.new result }
     ensures back { ReadsBack }
+    ensures worth { WrittenWorth }
 {
     if value > LARGEST_NUMBER {
         return Err(WriteCause::BadNumber);

@@ -8,9 +8,9 @@ use crate::reader::kind::Kind;
 use crate::reader::turn::{Task, Turn, task_of};
 
 #[derive(Clone, Copy)]
-pub(crate) struct Header {
+pub(crate) struct Header<'t> {
     pub kind: Kind,
-    pub task: Task,
+    pub task: Task<'t>,
     // The places of the body's first byte and after its last.
     pub body: usize,
     pub end: usize,
@@ -18,8 +18,12 @@ pub(crate) struct Header {
 
 // Checks go from left to right: the kind, whether it is in turn, the length, whether the body is
 // there.
-pub(crate) fn read_header(file: &[u8], place: usize, turn: Turn) -> Result<Header, Fault>
-    ensures { HeaderRead turn place (drop place file.now) result }
+pub(crate) fn read_header<'t>(
+    file: &[u8],
+    place: usize,
+    turn: &'t Turn,
+) -> Result<Header<'t>, Fault>
+    ensures { HeaderRead turn.now place (drop place file.now) result }
 {
     let kind_read = number_at(file, place, place)?;
     let strange = file_fault(place, FileCause::StrangeRecord);
@@ -44,5 +48,8 @@ pub(crate) fn read_header(file: &[u8], place: usize, turn: Turn) -> Result<Heade
 fn number_at(file: &[u8], start: usize, record: usize) -> Result<NumberRead, Fault>
     ensures { NumberAt (drop start file.now) start «record» result }
 {
-    read_number(file, start).map_err(|cause| placed_number(record, start, cause))
+    match read_number(file, start) {
+        Ok(read) => Ok(read),
+        Err(cause) => Err(placed_number(record, start, cause)),
+    }
 }

@@ -1,4 +1,4 @@
-// The longest file; specs/reader/Files.antt has the same for the contracts, which hold the two
+// The longest file; specs/reader/FileLimits.antt has the same for the contracts, which hold the two
 // together.
 
 /// The most bytes that a file may have.

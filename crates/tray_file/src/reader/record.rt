@@ -1,6 +1,6 @@
 // A record, which holds the part of the file that is its body.
 ghost use Rattle.std.specs.Prelude.{◌≡◌};
-ghost use Rattle.tray_file.specs.reader.Entries.{entry, entry_of};
+ghost use Rattle.tray_file.specs.reader.Entries.{entry, entry_of, part_of};
 
 use crate::reader::kind::Kind;
 
@@ -16,7 +16,8 @@ pub enum Record<'a> {
 }
 
 pub(crate) fn record_of<'a>(kind: Kind, body: &'a [u8]) -> Record<'a>
-    ensures { entry_of result ≡ entry kind body.now }
+    ensures entry { entry_of result ≡ entry kind body.now }
+    ensures part { part_of result ≡ body.entry }
 {
     match kind {
         Kind::Card => Record::Card(body),

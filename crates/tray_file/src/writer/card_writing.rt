@@ -4,7 +4,7 @@ ghost use Rattle.tray_file.specs.body.CardBodies.{card_body};
 ghost use Rattle.tray_file.specs.reader.RecordKinds.{kind_number};
 ghost use Rattle.tray_file.specs.declared.reader.kind.Kind.TheVariants as kinds;
 ghost use Rattle.tray_file.specs.writer.Writing.{RecordWritten};
-ghost use Rattle.tray_file.specs.writer.ReadingBack.{CardComesBack, AcceptedIsWritten};
+ghost use Rattle.tray_file.specs.writer.ReadingBack.{CardComesBack, AcceptedIsMade};
 ghost use Rattle.tray_file.specs.writer.Writers.{Writable, CardWritten};
 
 use crate::reader::Kind;
@@ -19,7 +19,7 @@ use fields::{BinaryField, LetteredField, PrimeField};
 pub fn write_card(card: &AnyCard, buffer: &mut [u8]) -> Result<usize, WriteRefusal>
     ensures written { CardWritten card.now buffer.old buffer.new result }
     ensures back { CardComesBack card.now }
-    ensures accepted { AcceptedIsWritten }
+    ensures accepted { AcceptedIsMade }
 {
     match card {
         AnyCard::Prime(card) => {

@@ -1,24 +1,27 @@
 use Rattle.std.proofs.Common.{◌≡◌, ℕ, ◌+◌, List, sym, refl, ap, ◌∙◌, arith, length-set}
 use Rattle.tray_file.specs.number.NumberWriting.{put_at}
 use Rattle.tray_file.proofs.number_lemmas.ReadBytes.{reads_back}
+use Rattle.tray_file.proofs.number_lemmas.Worth.{written_worth}
 use Rattle.tray_file.proofs.number_lemmas.WrittenBytes.{put_one, put_two, put_three, is_one, is_two, is_three}
 use Rattle.tray_file.proofs.number.writing.write_number.Goals as goal
 use Rattle.tray_file.proofs.number.writing.write_number.Goals.{then-start-buffer-via-then-start-buffer, then-start-buffer-via-else-start-buffer+then-buffer-start, then-size-eq1, else-size-eq1+then-size-eq2, else-size-eq1+else-size-eq2}
 
 pub returns-then-value-gt-LARGEST_NUMBER : goal.returns-then-value-gt-LARGEST_NUMBER
-returns-then-value-gt-LARGEST_NUMBER c = record { written = (c.if-value-gt-LARGEST_NUMBER.true, refl); back = reads_back }
+returns-then-value-gt-LARGEST_NUMBER c = record { written = ((refl, c.if-value-gt-LARGEST_NUMBER.true), refl); back = reads_back; worth = written_worth }
 
 pub returns-then-start-buffer : goal.returns-then-start-buffer
 returns-then-start-buffer c =
     record {
       written = (
         (
+          refl,
           c.if-value-gt-LARGEST_NUMBER.false,
           elim c.then-start-buffer.branch [ then-start-buffer-via-then-start-buffer w ↦ omega arith | then-start-buffer-via-else-start-buffer+then-buffer-start w ↦ omega arith ],
         ),
         refl,
       );
       back = reads_back;
+      worth = written_worth;
     }
 
 pub overflow_cast-buffer : goal.overflow_cast-buffer
@@ -68,4 +71,5 @@ returns c =
         ],
       );
       back = reads_back;
+      worth = written_worth;
     }

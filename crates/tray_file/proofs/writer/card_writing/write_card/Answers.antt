@@ -8,7 +8,7 @@ use Rattle.codes.specs.Code.{Code}
 use Rattle.codes.specs.Cards.{card_code}
 use Rattle.tray_file.specs.writer.Writers.{Writable}
 use Rattle.tray_file.proofs.writer_lemmas.WritableValues.{writable}
-use Rattle.tray_file.proofs.writer_lemmas.WrittenRecords.{card_comes_back, accepted_is_written}
+use Rattle.tray_file.proofs.writer_lemmas.WrittenRecords.{card_comes_back, accepted_is_made}
 use Rattle.tray_file.proofs.writer.card_writing.write_card.Goals as goal
 
 pub write_values-requires : goal.write_values-requires
@@ -28,7 +28,7 @@ write_values-requires-in-Binary c =
     (writable (binary_meaning card.field) 2 c.modulus-modulus.result (card_code card) card.checked (omega arith) (omega arith))
 
 pub returns-in-Prime : goal.returns-in-Prime
-returns-in-Prime c = record { written = search rules; back = card_comes_back c.args.card.now; accepted = accepted_is_written }
+returns-in-Prime c = record { written = search rules; back = card_comes_back c.args.card.now; accepted = accepted_is_made }
 
 pub returns-in-Binary : goal.returns-in-Binary
-returns-in-Binary c = record { written = search rules; back = card_comes_back c.args.card.now; accepted = accepted_is_written }
+returns-in-Binary c = record { written = search rules; back = card_comes_back c.args.card.now; accepted = accepted_is_made }
