@@ -1,17 +1,20 @@
 // Reads a tray file from standard input, and prints what its cells records read as.
 #![tactic(auto)]
 
-use std::io::Read;
+use std::io::{BufWriter, Read, Write};
 use tray_file::LONGEST_FILE;
 use tray_report::write_lines;
 
 // One byte more than a file may have tells that it is too long.
 fn run(rt: &HostRuntime) -> anyhow::Result<()> {
-    let mut file = Vec::new(rt.alloc());
+    let heap = rt.alloc();
+    let mut file = Vec::new(heap);
     rt.stdin()
         .take(LONGEST_FILE as u64 + 1)
         .read_to_end(&mut file)?;
-    write_lines(&mut rt.stdout(), file.as_slice())?;
+    let mut out = BufWriter::new(heap, rt.stdout())?;
+    write_lines(&mut out, file.as_slice())?;
+    out.flush()?;
     Ok(())
 }
 

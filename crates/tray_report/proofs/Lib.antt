@@ -1,4 +1,6 @@
-pub mod Advances
-pub mod LastCards
+mod Turns
 mod FileTexts
+mod SomeText
 mod OneText
+mod Beginnings
+mod Putting

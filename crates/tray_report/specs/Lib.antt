@@ -1,7 +1,6 @@
 pub use Rattle.codes.specs.Cards
 pub mod FileLines
 pub mod FileText
-pub mod LastCards
+pub mod Putting
 pub mod ReportLines
 pub mod WordReading
-pub mod WordUnder

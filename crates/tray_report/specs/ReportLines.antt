@@ -8,7 +8,6 @@ use Rattle.codes.specs.WordText.{word_text}
 use Rattle.tray_report.specs.declared.line.LostLine.{LostLine}
 use Rattle.tray_report.specs.declared.line.EndLine.{EndLine}
 use Rattle.tray_report.specs.declared.line.FaultLine.{FaultLine}
-use Rattle.tray_report.specs.declared.line.ReadLine.{ReadLine}
 
 -- LOST, the record's place and the refusal's number
 abbrev pub lost_text : LostLine → List ℕ
@@ -37,6 +36,3 @@ read_bytes place wrong blank letters =
     codes "READ " ++ (decimal place
     ++ (codes " " ++ (decimal wrong
     ++ (codes " " ++ (decimal blank ++ word_text letters)))))
-
-abbrev pub read_text : ReadLine → List ℕ
-read_text l = read_bytes l.place l.wrong l.blank l.word.letters.now

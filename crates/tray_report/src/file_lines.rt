@@ -1,10 +1,9 @@
 // The lines of a file, one record after another.
-mod cells;
+mod telling;
 
-ghost use Rattle.std.specs.Prelude.{◌≡◌};
-ghost use Rattle.tray_report.specs.LastCards.{LastCard};
+ghost use Rattle.std.specs.Prelude.{◌≡◌, ◌+◌, ◌≤◌};
 
-use crate::file_lines::cells::{counted, tell_cells};
+use crate::file_lines::telling::{counted, tell_cells};
 use crate::line::{EndLine, FaultLine, LostLine};
 use crate::word_read::WordRead;
 use tray_file::{Record, TrayReader};
@@ -24,60 +23,51 @@ pub enum Step {
     Fault(FaultLine),
 }
 
-/// A reader, the body of the last card that it read, and how many cells records read so far and how
-/// many did not.
-#[derive(Clone, Copy)]
+/// A reader, and how many cells records read so far and how many did not.
+#[derive(Drop)]
 pub struct FileLines<'a> {
     reader: TrayReader<'a>,
-    card: &'a [u8],
     end: EndLine,
-    ghost under: { ∥ LastCard reader.turn card.now ∥₁ },
+    // A record has a byte at least, so the counts fit.
+    ghost few: { end.read + end.lost ≤ reader.place },
 }
 
 impl<'a> FileLines<'a> {
     ghost use Rattle.tray_report.specs.FileLines.{Fresh, Stepped};
+    ghost use Rattle.tray_report.specs.FileText.{TellingLaws};
 
     /// At the file's first byte, with nothing read.
     pub fn new(file: &'a [u8]) -> FileLines<'a>
-        ensures { Fresh file.now result }
+        ensures { Fresh file.entry result }
     {
         FileLines {
             reader: TrayReader::new(file),
-            card: &file[0..0],
             end: EndLine { read: 0, lost: 0 },
         }
     }
 
     /// Reads one record more, and tells what is to be said of it. After the end or a fault it tells
-    /// the same again.
+    /// the same again. What the steps tell from the file's first byte on, up to the end or the
+    /// fault, is the text of the file, which has only one.
+    #[tactic(auto, using(crate::proofs::OneText::telling_laws))]
     pub fn step(&mut self) -> Step
-        ensures { Stepped self.old result self.new }
+        ensures step { Stepped self.old result self.new }
+        ensures laws { TellingLaws }
     {
-        let mut reader = self.reader;
-        let card = self.card;
-        let end = self.end;
-        let place = reader.place();
-        let Some(answer) = reader.next() else {
-            return Step::End(end);
+        let place = self.reader.place();
+        let Some(answer) = self.reader.next() else {
+            return Step::End(self.end);
         };
         match answer {
-            Err(fault) => {
-                *self = FileLines { reader, card, end };
-                Step::Fault(FaultLine { fault })
-            }
+            Err(fault) => Step::Fault(FaultLine { fault }),
             Ok(record) => match record {
-                Record::Card(card) => {
-                    *self = FileLines { reader, card, end };
-                    Step::Silent
-                }
-                Record::Note(_) => {
-                    *self = FileLines { reader, card, end };
-                    Step::Silent
-                }
-                Record::Cells(body) => {
-                    let step = tell_cells(place, card, body);
-                    let end = counted(end, &step);
-                    *self = FileLines { reader, card, end };
+                Record::Card(_) => Step::Silent,
+                Record::Note(_) => Step::Silent,
+                Record::Cells(_) => {
+                    // Cells stand under a card, so there is one.
+                    let card = self.reader.card().unwrap();
+                    let step = tell_cells(place, card, self.reader.cells());
+                    self.end = counted(self.end, &step);
                     step
                 }
             },

@@ -1,18 +1,30 @@
-use mathlib.Core.Logic.{∥∥₁_map}
-use Rattle.tray_report.proofs.LastCards.{after_card, after_cells, answered_as}
+use Rattle.std.proofs.Common.{ℕ, List, Some, Ok, Result, sym, ap, ◌∙◌, subst}
+use Rattle.codes.specs.declared.cell.Cell.{Cell}
+use Rattle.tray_file.specs.reader.Readers.{Next}
+use Rattle.tray_file.specs.reader.Turns.{lent_card}
+use Rattle.tray_file.specs.declared.fault.Fault.{Fault}
+use Rattle.tray_file.specs.declared.reader.record.Record.{Record}
+use Rattle.tray_file.specs.declared.reader.record.Record.TheVariants.{Cells}
+use Rattle.tray_report.specs.FileLines.{CellsTold}
+use Rattle.tray_report.proofs.Turns.{answered_as, counts_fit, counts_within}
 use Rattle.tray_report.proofs.file_lines.FileLines.step.Goals as goal
 
-pub invariant_of-self-in-Card : goal.invariant_of-self-in-Card
-invariant_of-self-in-Card c =
-    let here = (answered_as _ _ _ _ _ c.in-Some.ensures.step c.in-Ok.is c.in-Card.is).here in
-    record { under = ∣ after_card _ _ _ here.follows ∣₁ }
-
-pub tell_cells-step-requires : goal.tell_cells-step-requires
-tell_cells-step-requires c =
-    let here = (answered_as _ _ _ _ _ c.in-Some.ensures.step c.in-Ok.is c.in-Cells.is).here in
-    ∥∥₁_map c.args.self.now.under (λ last. (after_cells _ _ _ _ last here.follows).0)
+pub counted-self-requires : goal.counted-self-requires
+counted-self-requires c =
+    let step = subst (λ (a : Result Record Fault). Next c.args.self.now.reader (Some a) c.next.new.self) c.in-Ok.is c.in-Some.ensures.step in
+    counts_fit c.args.self.now c.next.new.self c.in-Ok.record step
 
 pub invariant_of-self-in-Cells : goal.invariant_of-self-in-Cells
 invariant_of-self-in-Cells c =
-    let here = (answered_as _ _ _ _ _ c.in-Some.ensures.step c.in-Ok.is c.in-Cells.is).here in
-    record { under = ∥∥₁_map c.args.self.now.under (λ last. (after_cells _ _ _ _ last here.follows).1) }
+    let step = subst (λ (a : Result Record Fault). Next c.args.self.now.reader (Some a) c.next.new.self) c.in-Ok.is c.in-Some.ensures.step in
+    record { few = counts_within c.args.self.now c.next.new.self c.in-Ok.record step c.tell_cells-step.result c.counted-self.result c.counted-self.ensures }
+
+pub returns-in-Cells-clause-step : goal.returns-in-Cells-clause-step
+returns-in-Cells-clause-step c =
+    let next = answered_as _ _ _ _ _ c.in-Some.ensures.step c.in-Ok.is c.in-Cells.is in
+    let last = sym c.card.ensures ∙ ap lent_card c.unwrap-card.ensures in
+    let told = subst (λ (n : ℕ). CellsTold n c.unwrap-card.result.now c.cells.result.now c.tell_cells-step.result) c.place-place.ensures c.tell_cells-step.ensures in (
+      Some (Ok (Cells c.in-Cells.field-0)),
+      next,
+      (c.unwrap-card.result.now, last, subst (λ (l : List Cell). CellsTold c.args.self.now.reader.place c.unwrap-card.result.now l c.tell_cells-step.result) c.cells.ensures told, c.counted-self.ensures),
+    )
