@@ -43,6 +43,33 @@ REFUSAL_WORDS = {
     37: "long file",
     38: "too small",
 }
+# The cases of each type of refusal, by their numbers, in the order in which the program shows them.
+BODY = (32, 35, 36, 10, 11, 12, 13, 14, 15, 16, 22)
+READ = (25, 23, 24)
+REFUSAL_TYPES = (
+    ("NoSuchField", (10,)),
+    ("FieldCause", (11, 12)),
+    ("RealiseRefusal", (25, 17)),
+    ("CardCause", (13, 14, 15, 16)),
+    ("SumsRefusal", (25,)),
+    ("HouseRefusal", (18,)),
+    ("FillRefusal", (25, 23)),
+    ("EncodeRefusal", (26, 25, 22)),
+    ("ReadRefusal", READ),
+    ("MarkRefusal", (28,)),
+    # an alphabet with too many letters, and a bad mark
+    ("LineRefusal", (25, 28, 28)),
+    ("NoteRefusal", (21, 22)),
+    ("WipeRefusal", (21,)),
+    ("NoSuchKind", (33,)),
+    ("FieldFault", (10, 11, 12)),
+    ("TagCause", (22,)),
+    ("FileCause", (31, 32, 33, 34, 35, 36, 37)),
+    ("Layer", (10, 11, 12, 13, 14, 15, 16, 22, 31, 32, 33, 34, 35, 36, 37)),
+    ("BodyFault", BODY),
+    ("CellsRefusal", (25, *BODY)),
+    ("WriteRefusal", (22, 25, 36, 38)),
+)
 cases, answers = [], []
 
 
@@ -392,6 +419,14 @@ def refusals():
     case("refusal 19", "no refusal has this number")
 
 
+def refusals_by_type():
+    """What the program writes after the answers: the type, the number and the word of each case."""
+    lines = ["refusals, case by case:"]
+    for name, numbers in REFUSAL_TYPES:
+        lines += [f"{name} {number} {REFUSAL_WORDS[number]}" for number in numbers]
+    return lines
+
+
 def main():
     rng = random.Random(37)
     fields()
@@ -408,7 +443,7 @@ def main():
     refusals()
     (FOLDER / "stdin").write_text("\n".join(cases) + "\n", encoding="utf-8")
     proved = ["proved: [5, 4, 0, 5] [0]"]
-    (FOLDER / "stdout").write_text("\n".join(proved + answers) + "\n", encoding="utf-8")
+    (FOLDER / "stdout").write_text("\n".join(proved + answers + refusals_by_type()) + "\n", encoding="utf-8")
 
 
 main()

@@ -1,0 +1,3 @@
+pub mod FivesTold
+pub mod NotedCells
+pub mod GrantedNotes

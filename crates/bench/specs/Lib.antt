@@ -1,1 +1,3 @@
+pub mod Letters
+pub mod Damaged
 pub mod Readings

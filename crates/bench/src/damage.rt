@@ -1,10 +1,30 @@
 // How a tag is damaged, and what reading it is to find.
+ghost use Rattle.std.specs.Prelude.{◌≡◌};
+ghost use Rattle.bench.specs.Letters.{another_letter};
+
 use std::fmt;
 
 #[derive(Clone, Copy)]
 pub struct Damage {
     pub wrong: usize,
     pub blank: usize,
+}
+
+impl Damage {
+    ghost use Rattle.bench.specs.Damaged.{noted_letter};
+
+    // The letter to note at a place in place of the word's; none in the first cells.
+    pub fn noted(self, place: usize, letter: u32) -> Option<u32>
+        ensures { result ≡ noted_letter self place letter }
+    {
+        if place < self.blank {
+            None
+        } else if place - self.blank < self.wrong {
+            Some(another_letter(letter))
+        } else {
+            Some(letter)
+        }
+    }
 }
 
 pub const DAMAGES: [Damage; 7] = [
@@ -26,4 +46,11 @@ impl fmt::Display for Damage {
         let blank = self.blank;
         write!(f, "{wrong} wrong, {blank} blank")
     }
+}
+
+// A letter of every alphabet, and another one.
+fn another_letter(letter: u32) -> u32
+    ensures { result ≡ another_letter letter }
+{
+    if letter == 0 { 1 } else { 0 }
 }

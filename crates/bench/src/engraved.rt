@@ -1,9 +1,10 @@
 // The engraved tags that are read.
-ghost use Rattle.std.specs.Prelude.{◌≡◌, true};
+ghost use Rattle.std.specs.Prelude.{◌≡◌, ◌↔◌, IsTrue};
 ghost use Rattle.fields.specs.Binary.{binary_meaning};
 ghost use Rattle.codes.specs.Cards.{card_code};
-ghost use Rattle.tags.specs.tag.Tags.{tag_code, tag_cells};
-ghost use Rattle.bench.specs.Readings.{SomeWord, ReadRight};
+ghost use Rattle.codes.specs.Codeword.{Codeword};
+ghost use Rattle.tags.specs.tag.Tags.{tag_arithmetic, tag_code, tag_cells};
+ghost use Rattle.bench.specs.Readings.{ByFives, SomeWord, NotedDamaged, ReadRight};
 
 use crate::damage::Damage;
 use codes::{Card, ENGRAVED};
@@ -19,34 +20,42 @@ const DATA: usize = CELLS - ENGRAVED.rows;
 pub fn some_word(card: &Card<BinaryField>) -> Result<[u32; CELLS], EncodeRefusal>
     ensures { SomeWord (binary_meaning card.now.field) (card_code card.now) result }
 {
-    let mut letters = [0; DATA];
-    for (j, letter) in letters.iter_mut().enumerate() {
-        *letter = 5 * j as u32;
-    }
+    let letters = data_letters();
     let mut word = [0; CELLS];
     encode(card, &letters, &mut word)?;
     Ok(word)
 }
 
-// Notes the word with its first cells left blank and those after them wrong. The tag is still one
-// of its card.
-pub fn note_damaged(tag: &mut Tag<'_, BinaryField>, word: &[u32; CELLS], damage: Damage)
-    ensures { tag.new.card.now ≡ tag.old.card.now }
+fn data_letters() -> [u32; DATA]
+    ensures { ByFives result }
 {
-    for (j, letter) in word.iter().enumerate() {
-        if j >= damage.blank {
-            let wrong = j - damage.blank < damage.wrong;
-            let letter = if wrong { *letter ^ 1 } else { *letter };
-            let _ = tag.note(j + 1, letter);
+    let mut letters = [0; DATA];
+    for j in 0..DATA {
+        letters[j] = 5 * j as u32;
+    }
+    letters
+}
+
+// Notes the word with its first cells left as they are and those after them wrong. The tag is still
+// one of its card.
+pub fn note_damaged(tag: &mut Tag<'_, BinaryField>, word: &[u32; CELLS], damage: Damage)
+    requires { Codeword (tag_arithmetic tag.old) (tag_code tag.old) word.now }
+    ensures card { tag.new.card.now ≡ tag.old.card.now }
+    ensures cells { NotedDamaged damage word.now (tag_cells tag.old) (tag_cells tag.new) }
+{
+    for j in 0..CELLS {
+        if let Some(letter) = damage.noted(j, word[j]) {
+            // The cell is one of the tag, and the letter one of its alphabet.
+            tag.note(j + 1, letter).unwrap();
         }
     }
 }
 
 // Whether the tag reads as the word, with the damage counted.
 pub fn reads(tag: &Tag<'_, BinaryField>, word: &[u32; CELLS], damage: Damage) -> bool
-    ensures { result ≡ true
-        → ReadRight (binary_meaning tag.now.card.now.field).arithmetic (tag_code tag.now)
-        (tag_cells tag.now) word.now damage }
+    ensures { IsTrue result
+        ↔ ReadRight (tag_arithmetic tag.now) (tag_code tag.now) (tag_cells tag.now)
+        word.now damage }
 {
     let mut read = [0; CELLS];
     let Ok(counts) = tag.read(&mut read) else {

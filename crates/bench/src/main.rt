@@ -10,6 +10,7 @@ use codes::engraved_card;
 use damage::DAMAGES;
 use engraved::{note_damaged, reads, some_word};
 use std::env;
+use std::io::{BufWriter, Write};
 use std::time::Instant;
 use tags::Tag;
 
@@ -18,7 +19,11 @@ const READINGS: u32 = 20_000;
 fn run(rt: &HostRuntime) -> anyhow::Result<()> {
     let measure = env::args(rt)?.any(|argument| argument.as_str() == "run");
     let card = engraved_card();
-    println!(rt; "readings of engraved tags: 64 cells, 16 rows, 256 letters")?;
+    let mut out = BufWriter::new(rt.alloc(), rt.stdout())?;
+    writeln!(
+        out,
+        "readings of engraved tags: 64 cells, 16 rows, 256 letters"
+    )?;
     let Ok(word) = some_word(&card) else {
         return Err(anyhow!("the engraved card encodes every data"));
     };
@@ -32,14 +37,15 @@ fn run(rt: &HostRuntime) -> anyhow::Result<()> {
                 right = reads(&tag, &word, damage) && right;
             }
             let nanoseconds = start.elapsed(rt)?.as_nanos() / READINGS as u128;
-            println!(rt; "{damage}: {nanoseconds} ns a tag")?;
+            writeln!(out, "{damage}: {nanoseconds} ns a tag")?;
         } else {
-            println!(rt; "{damage}")?;
+            writeln!(out, "{damage}")?;
         }
         if !right {
             return Err(anyhow!("a tag was read wrong"));
         }
     }
+    out.flush()?;
     Ok(())
 }
 

@@ -40,16 +40,16 @@ cells_long cells twenty =
 
 inked_refused : (cells : List Cell) (before after : List ℕ) (refusal : WriteRefusal) → length before ≡ 128 → RecordWritten (kind_number Card) (card_body prime_kind 37 (row_code inked)) before after (Err refusal) → FiledTag cells (Err refusal)
 unfolding card_record
-inked_refused cells before after TooSmall long r = let small = r.small in omega (arith, card_long)
+inked_refused cells before after TooSmall long r = let small = r.1.small in omega (arith, card_long)
 inked_refused cells before after NoLetter long r = absurd r
 inked_refused cells before after WrongLength long r = absurd r
 inked_refused cells before after BadNote long r = absurd r
 
 inked_cells_refused : (cells : List Cell) (before after : List ℕ) (refusal : WriteRefusal) → length before + length card_record ≡ 128 → length cells ≡ 20 → CellsWritten (row_code inked) cells before after (Err refusal) → FiledTag cells (Err refusal)
 unfolding cells_record
-inked_cells_refused cells before after TooSmall long twenty r = let small = r.2.small in omega (arith, card_long, cells_long cells twenty)
-inked_cells_refused cells before after NoLetter long twenty r = r.1
-inked_cells_refused cells before after WrongLength long twenty r = absurd (r.0 twenty)
+inked_cells_refused cells before after TooSmall long twenty r = let small = r.3.small in omega (arith, card_long, cells_long cells twenty)
+inked_cells_refused cells before after NoLetter long twenty r = r.2
+inked_cells_refused cells before after WrongLength long twenty r = absurd (r.1 twenty)
 inked_cells_refused cells before after BadNote long twenty r = absurd r
 
 -- two records, each at the front of what is left, stand one after the other

@@ -1,5 +1,8 @@
 -- What an inked tag reads as on which a line was found.
-use Rattle.std.specs.Prelude.{ℕ, List, replicate, Ok, Err, Result}
+use Rattle.std.specs.Prelude.{◌≡◌, ℕ, List, replicate, Ok, Err, Result}
+use Rattle.std.specs.Borrow.{Bor}
+use Rattle.tags.specs.declared.runs.event.Event.{Event}
+use Rattle.tags.specs.declared.runs.event.Event.TheVariants as event
 use Rattle.decoding.specs.reading.Reading.{Reading}
 use Rattle.decoding.specs.declared.reading.read_answer.Counts.{Counts}
 use Rattle.decoding.specs.declared.reading.read_answer.ReadRefusal.{ReadRefusal}
@@ -17,6 +20,11 @@ empty_word = replicate inked_cells 0
 -- what comes of reading the cells, where a buffer for the word is lent
 abbrev pub CellsReadAs : List Cell → List ℕ → Result Counts ReadRefusal → Type 0
 CellsReadAs cells word answer = Reading inked_arithmetic inked_code cells empty_word word answer
+
+-- the event is a read with this answer, which showed this word
+abbrev pub ReadShown : Event → Result Counts ReadRefusal → List ℕ → Type 0
+ReadShown happened answer word =
+    (shown : Bor (List ℕ)) × (happened ≡ event.Read answer shown) × (shown.now ≡ word)
 
 -- A line that is refused is so in its case. Else the cells are those that its marks stand for, and
 -- they are read: the word is the only codeword near them, with its counts, or the refusal is given

@@ -42,26 +42,30 @@ pub use Rattle.minimal_pairs.specs.MinimalPair
 -- tags: reading, marks, the sheet, runs of calls
 pub use Rattle.decoding.specs.reading.Reading
 pub use Rattle.tags.specs.marks.Marks
+pub use Rattle.tags.specs.marks.MarksRead
 pub use Rattle.tags.specs.marks.Lines
 pub use Rattle.tags.specs.tag.Sheet
 pub use Rattle.tags.specs.tag.Tags
 pub use Rattle.tags.specs.runs.Calls
+pub use Rattle.tags.specs.runs.Rooms
 pub use Rattle.tags.specs.runs.Runs
+pub use Rattle.tags.specs.runs.Plays
 pub use Rattle.tags.specs.runs.Scripts
 -- tray files: numbers, bodies, faults, records, a file, the reader, the writers, the lines of a
 -- file
 pub use Rattle.tray_file.specs.number.Numbers
+pub use Rattle.tray_file.specs.number.BadNumbers
 pub use Rattle.tray_file.specs.fault.Layers
 pub use Rattle.tray_file.specs.fault.Faults
 pub use Rattle.tray_file.specs.body.NumberLists
 pub use Rattle.tray_file.specs.body.CardHeads
-pub use Rattle.tray_file.specs.body.CardShapes
 pub use Rattle.tray_file.specs.body.CardBodies
 pub use Rattle.tray_file.specs.body.CellBodies
 pub use Rattle.tray_file.specs.body.CellRefusals
 pub use Rattle.tray_file.specs.body.Notes
-pub use Rattle.tray_file.specs.body.SameCards
+pub use Rattle.tray_file.specs.body.OneReading
 pub use Rattle.tray_file.specs.reader.RecordKinds
+pub use Rattle.tray_file.specs.reader.FileLimits
 pub use Rattle.tray_file.specs.reader.Turns
 pub use Rattle.tray_file.specs.reader.Entries
 pub use Rattle.tray_file.specs.reader.Headers
@@ -72,11 +76,10 @@ pub use Rattle.tray_file.specs.writer.WriteRefusals
 pub use Rattle.tray_file.specs.writer.Writing
 pub use Rattle.tray_file.specs.writer.Writers
 pub use Rattle.tray_file.specs.writer.ReadingBack
-pub use Rattle.tray_report.specs.LastCards
 pub use Rattle.tray_report.specs.WordReading
-pub use Rattle.tray_report.specs.WordUnder
 pub use Rattle.tray_report.specs.FileLines
 pub use Rattle.tray_report.specs.FileText
+pub use Rattle.tray_report.specs.Putting
 pub use Rattle.tray_report.specs.ReportLines
 -- theorems and worked examples; those of codes stand above, in Theorems
 pub use Rattle.algebra.specs.Places

@@ -26,11 +26,13 @@ pub use Rattle.decoding.specs.declared.encoding.encode_refusal.EncodeRefusal
 pub use Rattle.minimal_pairs.specs.declared.minimal_pair.RealiseRefusal
 pub use Rattle.decoding.specs.declared.reading.read_answer.Counts
 pub use Rattle.decoding.specs.declared.reading.read_answer.ReadRefusal
+pub use Rattle.tags.specs.declared.marks.mark.MarkRefusal
 pub use Rattle.tags.specs.declared.marks.line.LineRefusal
 pub use Rattle.tags.specs.declared.tag.Tag
 pub use Rattle.tags.specs.declared.tag.note_refusal.NoteRefusal
 pub use Rattle.tags.specs.declared.tag.wipe_refusal.WipeRefusal
 pub use Rattle.tags.specs.declared.runs.call.Call
+pub use Rattle.tags.specs.declared.runs.ending.Ending
 pub use Rattle.tags.specs.declared.runs.event.Event
 pub use Rattle.tags.specs.declared.runs.run.Played
 pub use Rattle.tags.specs.declared.runs.script.Script
@@ -53,7 +55,4 @@ pub use Rattle.tray_report.specs.declared.file_lines.Step
 pub use Rattle.tray_report.specs.declared.line.EndLine
 pub use Rattle.tray_report.specs.declared.line.FaultLine
 pub use Rattle.tray_report.specs.declared.line.LostLine
-pub use Rattle.tray_report.specs.declared.line.ReadLine
 pub use Rattle.tray_report.specs.declared.word_read.WordRead
-pub use Rattle.tray_report.specs.declared.word_reading.WordRefusal
-pub use Rattle.tray_report.specs.declared.card_word.UnderRefusal

@@ -2,10 +2,7 @@
 pub use shortlist::ShortList;
 pub use tray_file::{
     BodyFault, CellsRefusal, Fault, FieldFault, FileCause, Kind, LONGEST_FILE, LONGEST_NOTE, Layer,
-    NoSuchKind, Record, TagCause, TrayReader, WriteRefusal, read_card, read_cells, write_card,
-    write_cells, write_note,
+    NoSuchKind, Record, TagCause, TrayReader, WriteRefusal, check_file, read_card, read_cells,
+    write_card, write_cells, write_note,
 };
-pub use tray_report::{
-    EndLine, FaultLine, FileLines, LostLine, ReadLine, Step, UnderRefusal, WordRead, WordRefusal,
-    read_word, word_under, write_lines,
-};
+pub use tray_report::{EndLine, FaultLine, FileLines, LostLine, Step, WordRead, write_lines};

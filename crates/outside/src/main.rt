@@ -13,39 +13,54 @@ use kimzhadyr::card::Word;
 use kimzhadyr::tag::{Call, UNPLAYED};
 use play::play_calls;
 use show::EventLine;
+use std::alloc::Global;
+use std::io::{BufWriter, Write};
 
-// Plays the calls on a tag with so many letters, and tells the journal.
-fn tell_run(rt: &HostRuntime, letters: u32, calls: &[Call<'static>]) -> anyhow::Result<()> {
-    let heap = rt.alloc();
-    println!(rt; "with {letters} letters:")?;
+// Plays the calls on a tag with so many letters, in a room that has numbers for all of them, and
+// tells the journal.
+fn tell_run<W: Write>(
+    heap: Global,
+    out: &mut W,
+    letters: u32,
+    calls: &[Call<'static>],
+) -> anyhow::Result<()> {
+    writeln!(out, "with {letters} letters:")?;
+    let numbers = calls
+        .iter()
+        .fold(0, |sum: usize, call| sum.saturating_add(call.lent()));
+    let mut room = vec![in heap; 0; numbers]?;
     let mut journal = vec![in heap; UNPLAYED; calls.len()]?;
-    match play_calls(letters, calls, journal.as_mut_slice()) {
+    match play_calls(letters, calls, journal.as_mut_slice(), room.as_mut_slice()) {
         Ok(_) => {
             for event in &journal {
-                rt.println(EventLine { event: *event })?;
+                let line = EventLine { event: *event };
+                writeln!(out, "{line}")?;
             }
         }
         Err(cause) => {
             let number = cause.number();
-            println!(rt; "  no card: {number} {cause}")?;
+            writeln!(out, "  no card: {number} {cause}")?;
         }
     }
     Ok(())
 }
 
 fn run(rt: &HostRuntime) -> anyhow::Result<()> {
+    let heap = rt.alloc();
+    let mut out = BufWriter::new(heap, rt.stdout())?;
     match encode_pair(&[1, 2]) {
         Ok(word) => {
             let word = Word { letters: &word };
-            println!(rt; "encoded:{word}")?;
+            writeln!(out, "encoded:{word}")?;
         }
         Err(refusal) => {
             let number = refusal.number();
-            println!(rt; "not encoded: {number} {refusal}")?;
+            writeln!(out, "not encoded: {number} {refusal}")?;
         }
     }
     tell_run(
-        rt,
+        heap,
+        &mut out,
         4,
         &[
             Call::Line { text: "1213" },
@@ -63,7 +78,8 @@ fn run(rt: &HostRuntime) -> anyhow::Result<()> {
         ],
     )?;
     tell_run(
-        rt,
+        heap,
+        &mut out,
         2,
         &[
             Call::Line { text: "1101" },
@@ -77,7 +93,9 @@ fn run(rt: &HostRuntime) -> anyhow::Result<()> {
             Call::Read { length: 4 },
         ],
     )?;
-    tell_run(rt, 3, &[Call::Read { length: 4 }])
+    tell_run(heap, &mut out, 3, &[Call::Read { length: 4 }])?;
+    out.flush()?;
+    Ok(())
 }
 
 fn main(rt: HostRuntime) -> anyhow::Result<()> {

@@ -5,14 +5,16 @@ use crate::cards::four_card;
 use kimzhadyr::card::CardCause;
 use kimzhadyr::tag::{Call, Event, Played, play_script};
 
-// Works a fresh tag with so many letters by these calls, as many as the journal has places for.
-pub fn play_calls<'a>(
+// Works a fresh tag with so many letters by these calls, as many as the room has numbers and the
+// journal has places for.
+pub fn play_calls<'a, 'text: 'a>(
     letters: u32,
-    calls: &[Call<'a>],
+    calls: &[Call<'text>],
     journal: &mut [Event<'a>],
-) -> Result<Played, CardCause>
-    ensures { PlayedOnFour letters calls.now journal.old journal.new result }
+    room: &'a mut [u32],
+) -> Result<Played<'a>, CardCause>
+    ensures { PlayedOnFour letters calls.now room.old journal.old journal.new result }
 {
     let card = four_card(letters)?;
-    Ok(play_script(&card, calls, journal))
+    Ok(play_script(&card, calls, journal, room))
 }

@@ -1,10 +1,10 @@
 // What was encoded and what was played, on paper.
-ghost use Rattle.std.specs.Prelude.{◌≡◌, Some, min, take, length};
+ghost use Rattle.std.specs.Prelude.{◌≡◌, Some};
 ghost use Rattle.outside.specs.FourRuns.{refusal_of};
 ghost use Rattle.outside.specs.EventTexts.{call_text, refused_text, read_text, event_text};
 
 use kimzhadyr::card::Word;
-use kimzhadyr::tag::{BUFFER, Event};
+use kimzhadyr::tag::Event;
 use std::fmt;
 
 // A call of a run with its answer, on one line.
@@ -41,7 +41,10 @@ impl<'a> fmt::Display for CallMade<'a> {
             Event::Note { cell, letter, .. } => write!(f, "  note {cell} {letter}"),
             Event::Wipe { cell, .. } => write!(f, "  wipe {cell}"),
             Event::Line { text, .. } => write!(f, "  line {text}"),
-            Event::Read { length, .. } => write!(f, "  read {length}"),
+            Event::Read { shown, .. } => {
+                let length = shown.len();
+                write!(f, "  read {length}")
+            }
         }
     }
 }
@@ -75,27 +78,17 @@ impl<'a> fmt::Display for ReadShown<'a> {
     fn fmt<W: fmt::Write>(&self, f: &mut fmt::Formatter<W>) -> fmt::Result {
         let event = self.event;
         if let Event::Read {
-            length,
             answer: Ok(counts),
-            buffer,
+            shown,
         } = event
         {
             let wrong = counts.wrong;
             let blank = counts.blank;
-            let word = Word {
-                letters: lent(&buffer, length),
-            };
+            let word = Word { letters: shown };
             write!(f, ": {wrong} wrong, {blank} blank,{word}")?;
         }
         Ok(())
     }
-}
-
-// The part of a fresh buffer that a read was lent.
-fn lent(buffer: &[u32; BUFFER], count: usize) -> &[u32]
-    ensures { result.now ≡ take (min count (length buffer.now)) buffer.now }
-{
-    &buffer[..count.min(BUFFER)]
 }
 
 // The number that the call was refused with.

@@ -1,21 +1,17 @@
 // Bytes written in hexadecimal, two digits to a byte.
-ghost use Rattle.std.specs.Prelude.{◌≡◌, ◌<◌, IfOk};
+ghost use Rattle.std.specs.Prelude.{◌≡◌, ◌<◌, ◌/◌, length};
 ghost use Rattle.tray_cases.specs.Hexadecimal.{hexadecimal_digit, hexadecimal_bytes};
 
-use std::alloc::{AllocError, Global};
-
-// The bytes of a text. A character that is no digit stands for 0, and half a byte at the end is
-// left out.
-pub(crate) fn decode(heap: Global, text: &str) -> Result<Vec<u8>, AllocError>
-    ensures { IfOk result (λ bytes. bytes.items ≡ hexadecimal_bytes text.now) }
+// Writes the bytes of a text. A character that is no digit stands for 0, and half a byte at the end
+// is left out.
+pub(crate) fn decode(text: &str, bytes: &mut [u8])
+    requires { length bytes.old ≡ length text.now / 2 }
+    ensures { bytes.new ≡ hexadecimal_bytes text.now }
 {
-    let mut bytes = Vec::new(heap);
-    let mut left = text.as_bytes();
-    while let [high, low, rest @ ..] = left {
-        bytes.push(digit_of(*high) * 16 + digit_of(*low))?;
-        left = rest;
+    let digits = text.as_bytes();
+    for i in 0..bytes.len() {
+        bytes[i] = digit_of(digits[2 * i]) * 16 + digit_of(digits[2 * i + 1]);
     }
-    Ok(bytes)
 }
 
 fn digit_of(c: u8) -> u8

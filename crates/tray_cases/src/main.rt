@@ -5,14 +5,19 @@
 mod hexadecimal;
 
 use hexadecimal::decode;
+use std::io::{BufWriter, Write};
 use tray_report::write_lines;
 
 fn run(rt: &HostRuntime) -> anyhow::Result<()> {
-    for line in rt.lines(rt.alloc()) {
+    let heap = rt.alloc();
+    let mut out = BufWriter::new(heap, rt.stdout())?;
+    for line in rt.lines(heap) {
         let line = line?;
-        let file = decode(rt.alloc(), line.as_str())?;
-        write_lines(&mut rt.stdout(), file.as_slice())?;
+        let mut file = vec![in heap; 0; line.len() / 2]?;
+        decode(line.as_str(), file.as_mut_slice());
+        write_lines(&mut out, file.as_slice())?;
     }
+    out.flush()?;
     Ok(())
 }
 

@@ -1,6 +1,5 @@
 -- The alphabet sizes, told one after another.
-use Rattle.std.proofs.Common.{◌≡◌, ℕ, suc, ◌+◌, ◌<◌, List, [], ◌∷◌, ◌++◌, inl, inr, refl, sym, ap, ◌∙◌, subst, ⊎_elim, codes, min, add-one, arith}
-use Rattle.std.proofs.lemmas.Bool.{cases_lt}
+use Rattle.std.proofs.Common.{◌≡◌, ℕ, ◌+◌, List, [], ◌∷◌, ◌++◌, inl, inr, refl, sym, ap, ◌∙◌, subst, codes, add-one}
 use Rattle.std.proofs.lemmas.List.{flat_map_more}
 use Rattle.algebra.specs.Meaning.{Arithmetic}
 use Rattle.algebra.specs.Alphabet.{Alphabet}
@@ -24,17 +23,3 @@ told_more A n before after (sizes, are, is) admitted made =
 pub told_same : (A : Arithmetic) (n : ℕ) (text : List ℕ) → SizesTold A n text → (Alphabet A n → ⊥) → SizesTold A (n + 1) text
 unfolding AlphabetSizes
 told_same A n text (sizes, are, is) refused = subst (λ (k : ℕ). SizesTold A k text) (sym (add-one n)) (sizes, (sizes, are, inr (refused, refl)), is)
-
--- no size is above q, so one number more tells no more
-pub told_past : (A : Arithmetic) (text : List ℕ) → SizesTold A (A.size + 1 + 1) text → SizesTold A (A.size + 1) text
-unfolding AlphabetSizes
-told_past A text told = past (subst (λ (k : ℕ). SizesTold A k text) (add-one (A.size + 1)) told)
-  where
-    past : SizesTold A (suc (A.size + 1)) text → SizesTold A (A.size + 1) text
-    past (sizes, (smaller, are, inl (admitted, made)), is) = absurd (omega (arith, admitted.elements))
-    past (sizes, (smaller, are, inr (refused, same)), is) = (smaller, are, is ∙ ap (λ (xs : List ℕ). codes "admits" ++ word_text xs) same)
-
--- the last number is one above q, or q where the sum would be too large
-pub told_all : (A : Arithmetic) (last largest : ℕ) (text : List ℕ) → last ≡ min (A.size + 1) largest → A.size < largest + 1 → SizesTold A (last + 1) text → SizesTold A (A.size + 1) text
-told_all A last largest text is fits told =
-    ⊎_elim (λ less. told_past A text (subst (λ (k : ℕ). SizesTold A k text) (omega arith) told)) (λ most. subst (λ (k : ℕ). SizesTold A k text) (omega arith) told) (cases_lt A.size largest)

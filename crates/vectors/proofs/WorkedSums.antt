@@ -21,7 +21,7 @@ eleven_listed = refl
 
 pub made : (p : ℕ) (answer : Result PrimeField FieldCause) → Listed p → PrimeFieldMade p answer → IsOk answer
 made p (Ok field) listed is = refl
-made p (Err cause) listed is = absurd (is.0 listed)
+made p (Err cause) listed is = absurd (is.1 listed)
 
 -- what stands in the buffer after the sums over a field that was made
 pub summed : (p : ℕ) (answer : Result PrimeField FieldCause) (field : PrimeField) → PrimeFieldMade p answer → answer ≡ Ok field

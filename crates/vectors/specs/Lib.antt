@@ -7,3 +7,5 @@ pub mod InverseText
 pub mod ReadAnswers
 pub mod LineAnswers
 pub mod CaseAnswers
+pub mod EveryCase
+pub mod WordLines

@@ -1,5 +1,6 @@
 -- The text that answers the reading of a tag.
-use Rattle.std.specs.Prelude.{◌≡◌, ◌⊎◌, ℕ, ◌+◌, List, [], ◌∷◌, ◌++◌, Some, None, Option, Ok, Err, Result, map, length, take, codes, decimal, flat_map, slice_index_or}
+use Rattle.std.specs.Prelude.{◌≡◌, ◌⊎◌, ℕ, ◌+◌, List, [], ◌∷◌, ◌++◌, Some, None, Option, Ok, Err, Result, map, length, replicate, codes, decimal, flat_map, slice_index_or}
+use Rattle.std.specs.Borrow.{Bor}
 use Rattle.std.specs.List.{range_with_len}
 use Rattle.algebra.specs.Meaning.{Meaning, Arithmetic}
 use Rattle.codes.specs.Code.{Code}
@@ -33,24 +34,29 @@ notes_and_read cells size =
     flat_map (note_at cells) (range_with_len 0 (length cells)) ++ call.Read size ∷ []
 
 -- the counts and the word, or the refusal
-abbrev pub ReadText : ℕ → Result Counts ReadRefusal → List ℕ → List ℕ → Type 0
-ReadText size (Ok counts) buffer text =
+abbrev pub ReadText : Result Counts ReadRefusal → List ℕ → List ℕ → Type 0
+ReadText (Ok counts) word text =
     text ≡ decimal counts.wrong
-    ++ (codes " wrong, " ++ (decimal counts.blank
-    ++ (codes " blank, word" ++ word_text (take size buffer))))
-ReadText size (Err refusal) buffer text = RefusedText (read_number refusal) text
+    ++ (codes " wrong, " ++ (decimal counts.blank ++ (codes " blank, word" ++ word_text word)))
+ReadText (Err refusal) word text = RefusedText (read_number refusal) text
 
 -- the last event is a read, and the text is its answer's
 abbrev pub LastReadText : List Event → List ℕ → Type 0
 LastReadText journal text =
-    (earlier : List Event) × (size : ℕ) × (answer : Result Counts ReadRefusal) × (buffer : List ℕ)
-    × (journal ≡ earlier ++ event.Read size answer buffer ∷ []) × ReadText size answer buffer text
+    (earlier : List Event) × (answer : Result Counts ReadRefusal) × (shown : Bor (List ℕ))
+    × (journal ≡ earlier ++ event.Read answer shown ∷ []) × ReadText answer shown.now text
 
--- a fresh tag's cells are noted and read, by the law of runs, and the text is the read's
+-- the calls are made in this room, by the law of runs, and the text is the last one's
+abbrev pub PlayedText : Arithmetic → Code → List ℕ → List Call → List ℕ → Type 0
+PlayedText A code room calls text =
+    (journal : List Event) × (map call_of journal ≡ calls) × RunLaw A code room journal
+    × LastReadText journal text
+
+-- a fresh tag's cells are noted and read into zeros, and the text is the read's
 abbrev pub RunText : Arithmetic → Code → List Cell → List ℕ → Type 0
 RunText A code cells text =
-    (journal : List Event) × (map call_of journal ≡ notes_and_read cells (length code.locators))
-    × RunLaw A code journal × LastReadText journal text
+    PlayedText A code (replicate (length code.locators) 0)
+    (notes_and_read cells (length code.locators)) text
 
 -- of a code, and cells: the code is checked and the cells are read, or the first rule that it
 -- breaks is told

@@ -1,9 +1,11 @@
 // The cases and their answers.
-ghost use Rattle.std.specs.Prelude.{◌≡◌, IfOk, string_bytes};
+ghost use Rattle.std.specs.Prelude.{◌≡◌, ◌≤◌, length, IfOk, string_bytes};
 ghost use Rattle.vectors.specs.Answers.{RefusedText, taken_text, ArithmeticText, inverses_text, products_text, SumsAnswered, RealiseAnswered, CardAnswered, AdmitsText, EncodeAnswered};
 ghost use Rattle.vectors.specs.CaseAnswers.{FieldCaseAnswered, KindAnswered, FieldAnswered, RefusalAnswered, Answered};
 ghost use Rattle.vectors.specs.LineAnswers.{LineRefusedText, LineAnswered};
-ghost use Rattle.vectors.specs.ReadAnswers.{notes_and_read, LastReadText, ReadAnswered};
+ghost use Rattle.codes.specs.Cards.{card_arithmetic, card_code};
+ghost use Rattle.tags.specs.runs.Rooms.{used};
+ghost use Rattle.vectors.specs.ReadAnswers.{notes_and_read, LastReadText, PlayedText, ReadAnswered};
 ghost use Rattle.vectors.specs.Parts.{numbers_in, cells_in};
 
 use crate::code_case::CodeCase;
@@ -179,13 +181,13 @@ fn products<F: LetteredField>(case: Case<'_>, field: &F) -> anyhow::Result<Strin
     Ok(out)
 }
 
-// The alphabet sizes from 0 to one above q that are admitted.
+// The alphabet sizes from 0 to q that are admitted; no larger one is.
 fn admits<F: LetteredField>(case: Case<'_>, field: &F) -> anyhow::Result<String>
     ensures { IfOk result
         (λ text. AdmitsText (F.Field.meaning field.now).arithmetic (string_bytes text)) }
 {
     let mut out = format!(in case.heap; "admits")?;
-    for letters in 0..=field.size().saturating_add(1) {
+    for letters in 0..=field.size() {
         if field.admits(letters) {
             write!(out, " {letters}")?;
         }
@@ -294,18 +296,34 @@ fn read_case<F: LetteredField + Drop>(case: Case<'_>, field: F) -> anyhow::Resul
         bail!("reading begins with the letters and the rows")
     };
     let code = CodeCase::read(heap, *letters, *rows, case.rest)?;
-    let calls = note_calls(heap, code.last, code.code().locators.len())?;
+    let length = code.code().locators.len();
+    let calls = note_calls(heap, code.last, length)?;
     match Card::check(field, code.code()) {
         Ok(card) => {
-            let mut journal = vec![in heap; UNPLAYED; calls.len()]?;
-            play_script(&card, calls.as_slice(), journal.as_mut_slice());
-            last_read(heap, journal.as_slice())
+            let mut room = vec![in heap; 0; length]?;
+            played_text(heap, &card, calls.as_slice(), room.as_mut_slice())
         }
         Err(cause) => refused(heap, cause.number(), cause),
     }
 }
 
-// The calls that note the cells of a text, and a read into a buffer of `length` numbers. The
+// What the last call answers, a read, where the room has enough numbers for all calls.
+fn played_text<F: LetteredField>(
+    heap: Global,
+    card: &Card<F>,
+    calls: &[Call<'_>],
+    room: &mut [u32],
+) -> anyhow::Result<String>
+    requires { used calls.now ≤ length room.old }
+    ensures { IfOk result (λ text. PlayedText (card_arithmetic card.now) (card_code card.now)
+        room.old calls.now (string_bytes text)) }
+{
+    let mut journal = vec![in heap; UNPLAYED; calls.len()]?;
+    play_script(card, calls, journal.as_mut_slice(), room);
+    last_read(heap, journal.as_slice())
+}
+
+// The calls that note the cells of a text, and a read into `length` numbers. The
 // library allocates nothing, so a list of calls is a program's.
 fn note_calls(heap: Global, text: &str, length: usize) -> anyhow::Result<Vec<Call<'static>>>
     ensures { IfOk result (λ calls. calls.items ≡ notes_and_read (cells_in text.now) length) }
@@ -315,7 +333,7 @@ fn note_calls(heap: Global, text: &str, length: usize) -> anyhow::Result<Vec<Cal
     for (j, cell) in cells.iter().enumerate() {
         if let Some(letter) = cell.letter {
             calls.push(Call::Note {
-                cell: j.saturating_add(1),
+                cell: j + 1,
                 letter,
             })?;
         }
@@ -327,23 +345,14 @@ fn note_calls(heap: Global, text: &str, length: usize) -> anyhow::Result<Vec<Cal
 fn last_read(heap: Global, journal: &[Event<'_>]) -> anyhow::Result<String>
     ensures { IfOk result (λ text. LastReadText journal.now (string_bytes text)) }
 {
-    let Some(
-        Event::Read {
-            length,
-            answer,
-            buffer,
-        },
-    ) = journal.last().copied()
-    else {
+    let Some(Event::Read { answer, shown }) = journal.last().copied() else {
         bail!("the last call was no read")
     };
     match answer {
         Ok(counts) => {
             let wrong = counts.wrong;
             let blank = counts.blank;
-            let word = Word {
-                letters: &buffer[0..length.min(buffer.len())],
-            };
+            let word = Word { letters: shown };
             Ok(format!(in heap; "{wrong} wrong, {blank} blank, word{word}")?)
         }
         Err(refusal) => refused(heap, refusal.number(), refusal),

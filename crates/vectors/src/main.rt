@@ -9,20 +9,29 @@ mod inverse;
 mod number_lists;
 mod parts;
 mod refusals;
+mod word_cases;
+mod words;
 mod worked;
 
 use cases::answer;
+use std::io::{BufWriter, Write};
+use words::write_words;
 use worked::{sum_of_book_number, sums_of_six};
 
 fn run(rt: &HostRuntime) -> anyhow::Result<()> {
+    let heap = rt.alloc();
+    let mut out = BufWriter::new(heap, rt.stdout())?;
     let six = sums_of_six();
     let book = sum_of_book_number();
-    println!(rt; "proved: {six:?} {book:?}")?;
-    for line in rt.lines(rt.alloc()) {
+    writeln!(out, "proved: {six:?} {book:?}")?;
+    for line in rt.lines(heap) {
         let line = line?;
-        let text = answer(rt.alloc(), line.as_str())?;
-        rt.println(text.as_str())?;
+        let text = answer(heap, line.as_str())?;
+        writeln!(out, "{text}")?;
     }
+    writeln!(out, "refusals, case by case:")?;
+    write_words(heap, &mut out)?;
+    out.flush()?;
     Ok(())
 }
 

@@ -1,5 +1,5 @@
 -- The bytes of an inspection and of refused lines.
-use Rattle.std.specs.Prelude.{ℕ, ◌+◌, ◌-◌, ◌^◌, List, ◌++◌, codes, decimal, min}
+use Rattle.std.specs.Prelude.{ℕ, ◌+◌, List, ◌++◌, codes, decimal}
 use Rattle.codes.specs.WordText.{word_text, cells_text}
 use Rattle.codes.specs.declared.standing.Standing.{Standing}
 use Rattle.codes.specs.declared.standing.Standing.TheVariants.{Codeword, Unfinished, Damaged}
@@ -37,9 +37,9 @@ line_kind (BadMark place) = codes " bad mark"
 abbrev pub line_word : LineRefusal → List ℕ
 line_word refusal = decimal (line_number refusal) ++ line_kind refusal
 
--- what a cell is called whose place counts from 0: one more, up to the largest number
+-- what a cell is called whose place counts from 0: one more
 abbrev pub cell_name : ℕ → List ℕ
-cell_name place = decimal (min (place + 1) (2 ^ 64 - 1))
+cell_name place = decimal (place + 1)
 
 -- what is wrong with a line of so many marks, where so many are wanted
 abbrev pub line_fault : ℕ → ℕ → LineRefusal → List ℕ

@@ -69,7 +69,7 @@ impl fmt::Display for RefusedLine {
             }
             LineRefusal::UnmarkedAlphabet => write!(f, "the alphabet has letters without a mark"),
             LineRefusal::BadMark { place } => {
-                let cell = place.saturating_add(1);
+                let cell = place as u128 + 1;
                 write!(f, "mark {cell} is no letter and no '?'")
             }
         }
@@ -109,7 +109,7 @@ impl fmt::Display for RefusedData {
                 write!(f, "{line}")
             }
             DataRefusal::Blank { place } => {
-                let cell = place.saturating_add(1);
+                let cell = place as u128 + 1;
                 write!(f, "data letter {cell} is blank")
             }
         }

@@ -20,10 +20,10 @@ shape letters = search rules
 made : {g : Ghosts FourField} (field : FourField) (letters : ℕ) (r : Result (Card FourField g) CardCause) → CardMade (four_meaning field) field (four_code letters) r → FourCardMade letters r
 made field letters (Ok card) (same, values, checked) =
     (two_or_four letters checked.alphabet, values, subst (λ (code : Code). Checked (with_inverses four_elements) code) (sym values) checked)
-made field letters (Err BadShape) bad = absurd (bad (shape letters))
-made field letters (Err NoAlphabet) bad = (λ is. bad.1 (alphabet_of letters is), refl)
-made field letters (Err BadLocator) bad = absurd (bad.2 (counting_fit four_elements 0 4 (lit≤ tt)))
-made field letters (Err BadMultiplier) bad = absurd (bad.3 (ones_fit four_elements 4 (lit≤ tt)))
+made field letters (Err BadShape) bad = absurd (bad.1 (shape letters))
+made field letters (Err NoAlphabet) bad = (λ is. bad.2 (alphabet_of letters is), refl)
+made field letters (Err BadLocator) bad = absurd (bad.3 (counting_fit four_elements 0 4 (lit≤ tt)))
+made field letters (Err BadMultiplier) bad = absurd (bad.4 (ones_fit four_elements 4 (lit≤ tt)))
 
 pub returns : goal.returns
 returns c = made (record {}) c.args.letters c.check.result (search rules)

@@ -1,6 +1,6 @@
-use Rattle.std.proofs.Common.{◌≡◌, ◌+◌, ◌<◌, min, string_bytes, sym, ap, ◌∙◌, subst, arith}
+use Rattle.std.proofs.Common.{◌≡◌, ℕ, ◌+◌, string_bytes, sym, ap, ◌∙◌, subst, arith}
 use Rattle.std.proofs.lemmas.Bool.{false≢true}
-use Rattle.vectors.proofs.AlphabetSizes.{SizesTold, told_none, told_more, told_same, told_all}
+use Rattle.vectors.proofs.AlphabetSizes.{SizesTold, told_none, told_more, told_same}
 use Rattle.vectors.proofs.cases.admits.Goals as goal
 use Rattle.vectors.proofs.cases.admits.Goals.{then-admits+in_ok-write, else-admits, else-loop-letters-test, then-loop-letters-test+else-letters-counter-letters-end}
 
@@ -27,9 +27,8 @@ returns g c =
     elim c.loop-letters-test.branch [
       | else-loop-letters-test w ↦ absurd (omega (arith, w.loop-letters-test.false, c.loop-letters.auto.letters-counter-end))
       | then-loop-letters-test+else-letters-counter-letters-end w ↦
-          let last : n ≡ min (A.size + 1) 4294967295 = omega (arith, w.loop-letters-test.true, c.saturating_add-letters-end.ensures, c.size.ensures) in
-          let fits : A.size < 4294967295 + 1 = omega (arith, c.size.type_inv, c.size.ensures) in
-          told_all A n 4294967295 (string_bytes c.loop-letters-test.out) last fits
+          let last : n + 1 ≡ A.size + 1 = omega (arith, w.loop-letters-test.true) in
+          subst (λ (k : ℕ). SizesTold A k (string_bytes c.loop-letters-test.out)) last
           (elim w.if-admits.branch [
             | then-admits+in_ok-write w' ↦
                 subst (SizesTold A (n + 1)) (sym (ap string_bytes w'.out-is) ∙ sym (ap string_bytes w.out-is))

@@ -1,8 +1,8 @@
-use Rattle.std.proofs.Common.{◌≡◌, ℕ, ◌+◌, List, [], ◌∷◌, ◌++◌, length, flat_map, append-nil, sym, ap, ◌∙◌, arith}
+use Rattle.std.proofs.Common.{◌≡◌, ℕ, List, [], ◌∷◌, ◌++◌, length, flat_map, append-nil, sym, ap, ◌∙◌, arith}
 use Rattle.std.specs.List.{range_with_len}
 use Rattle.codes.specs.declared.cell.Cell.{Cell}
 use Rattle.tags.specs.declared.runs.call.Call.{Call}
-use Rattle.tags.specs.declared.runs.call.Call.TheVariants.{Note, Read}
+use Rattle.tags.specs.declared.runs.call.Call.TheVariants.{Read}
 use Rattle.vectors.specs.ReadAnswers.{note_of, note_at, notes_and_read}
 use Rattle.vectors.proofs.Texts.{piece_more}
 use Rattle.vectors.proofs.cases.note_calls.Goals as goal
@@ -18,8 +18,7 @@ loop-j-preserved c =
     piece_more (note_at cells) [] c.loop-j.calls.items c.match-cell.calls.items j c.loop-j.invariant
     (elim c.match-cell.branch [
       | in-Some+in_ok-push w ↦
-          let place : w.saturating_add.result ≡ j + 1 = omega (arith, w.saturating_add.ensures, c.loop-j-test.true, c.deref-cell-items.type_inv.0) in
-          ap (λ v. v.items) w.calls-is ∙ w.in_ok-push.ensures.items ∙ ap (λ (n : ℕ). c.loop-j.calls.items ++ Note n w.in-Some.letter ∷ []) place ∙ ap (λ o. c.loop-j.calls.items ++ note_of j o) (sym w.in-Some.is)
+          ap (λ v. v.items) w.calls-is ∙ w.in_ok-push.ensures.items ∙ ap (λ o. c.loop-j.calls.items ++ note_of j o) (sym w.in-Some.is)
       | in_default w ↦ ap (λ v. v.items) w.calls-is ∙ sym (append-nil c.loop-j.calls.items) ∙ ap (λ o. c.loop-j.calls.items ++ note_of j o) (sym w.in_default.is)
     ])
 

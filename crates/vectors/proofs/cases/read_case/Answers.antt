@@ -1,19 +1,25 @@
-use Rattle.std.proofs.Common.{◌≡◌, ◌++◌, ℕ, List, length, take, drop, string_bytes, inl, inr, sym, ap, ◌∙◌, subst, subst₂, ap₂, arith}
-use Rattle.std.proofs.Math.Seq.{take-append_seam}
+use Rattle.std.proofs.Common.{◌≡◌, ℕ, List, length, replicate, string_bytes, inl, inr, sym, ap, ◌∙◌, subst, ap₂, arith}
+use Rattle.std.proofs.lemmas.List.{length-replicate}
 use Rattle.std.proofs.lemmas.Result.{IfOk-weaker}
-use Rattle.algebra.specs.Meaning.{Meaning}
 use Rattle.codes.specs.Code.{Code}
 use Rattle.codes.specs.Checked.{Checked}
 use Rattle.codes.specs.Cards.{CardRefused}
 use Rattle.codes.specs.declared.cell.Cell.{Cell}
-use Rattle.tags.specs.runs.Runs.{RunLaw}
-use Rattle.tags.specs.declared.runs.event.Event.{Event}
+use Rattle.tags.specs.runs.Rooms.{used}
 use Rattle.vectors.specs.Answers.{RefusedText}
-use Rattle.vectors.specs.Parts.{part, cells_in}
-use Rattle.vectors.specs.ReadAnswers.{notes_and_read, LastReadText}
+use Rattle.vectors.specs.Parts.{cells_in}
+use Rattle.vectors.specs.ReadAnswers.{notes_and_read}
 use Rattle.vectors.proofs.CodeCases.{two, same_code}
-use Rattle.vectors.proofs.Journals.{as_long, run_text}
+use Rattle.vectors.proofs.Journals.{lent_notes_and_read, same_played}
 use Rattle.vectors.proofs.cases.read_case.Goals as goal
+
+pub played_text-requires : goal.played_text-requires
+played_text-requires g c =
+    let locators = c.code.ensures.locators ∙ c.in_ok-code.ensures.locators in
+    let are = c.as_slice.ensures.value ∙ c.in_ok-calls.ensures in
+    let room = c.as_mut_slice.ensures.value ∙ c.in_ok-room-in-Ok.ensures.items_if_clones_equal (λ y e. e) in
+    let numbers : length c.as_mut_slice.result.now ≡ used c.as_slice.result.now = ap (λ (xs : List ℕ). length xs) room ∙ length-replicate _ 0 ∙ sym (ap used are ∙ lent_notes_and_read (cells_in c.in_ok-code.code.last.now) _) in
+    omega (arith, numbers)
 
 pub returns-in-Ok : goal.returns-in-Ok
 returns-in-Ok g c =
@@ -22,27 +28,16 @@ returns-in-Ok g c =
     let is = same_code (c.code-2.ensures.letters ∙ read.letters) (c.code-2.ensures.rows ∙ read.rows) (c.code-2.ensures.locators ∙ read.locators) (c.code-2.ensures.multipliers ∙ read.multipliers) in
     let field = ap g.F.Field.meaning c.in-Ok.ensures.0 in
     let code = c.in-Ok.ensures.1 ∙ is in
-    let calls = c.as_slice.result.now in
-    let are = c.as_slice.ensures.value ∙ c.in_ok-calls.ensures ∙ ap₂ (λ (cells : List Cell) (n : ℕ). notes_and_read cells n) (ap cells_in read.last) (ap (λ (xs : List ℕ). length xs) (c.code.ensures.locators ∙ read.locators)) in
-    let before = c.as_mut_slice.result.now in
-    let after = c.play_script.new.journal in
-    let played = c.play_script.ensures in
-    let places = c.as_mut_slice.ensures.len ∙ c.in_ok-journal-in-Ok.ensures.len in
-    let enough : length before ≡ length calls = omega (arith, places, c.len.ensures, c.as_slice.ensures.len) in
-    let long = as_long calls before after c.play_script.result.events played.events enough played.calls played.others in
-    let row = c.as_slice-in-Ok.ensures.value ∙ ap (λ (n : ℕ). take n (after ++ drop (length after) c.in_ok-journal-in-Ok.journal.items)) (sym c.as_mut_slice.ensures.len ∙ enough ∙ sym long) ∙ take-append_seam after _ in
-    let law = subst₂ (λ (m : Meaning) (code : Code). RunLaw m.arithmetic code (take c.play_script.result.events after)) field code played.law in
-    IfOk-weaker c.last_read.result _ _
+    let locators = c.code.ensures.locators ∙ read.locators in
+    let are = c.as_slice.ensures.value ∙ c.in_ok-calls.ensures ∙ ap₂ (λ (cells : List Cell) (n : ℕ). notes_and_read cells n) (ap cells_in read.last) (ap (λ (xs : List ℕ). length xs) locators) in
+    let room = c.as_mut_slice.ensures.value ∙ c.in_ok-room-in-Ok.ensures.items_if_clones_equal (λ y e. e) ∙ ap (λ (xs : List ℕ). replicate (length xs) 0) locators in
+    IfOk-weaker c.played_text.result _ _
     (λ text told. (
       _,
       _,
       two c.args.case.numbers.now (omega (arith, c.in-len2.len_at_least)) (omega (arith, c.in-len2.len_below)),
-      inl (
-        subst (Checked m) is c.in-Ok.ensures.2,
-        run_text calls before after c.play_script.result.events played.events enough played.calls played.others m.arithmetic _ (cells_in (part 2 c.args.case.rest.now)) (string_bytes text) are law
-            (subst (λ (journal : List Event). LastReadText journal (string_bytes text)) row told),
-      ),
-    )) c.last_read.ensures
+      inl (subst (Checked m) is c.in-Ok.ensures.2, same_played (string_bytes text) field code room are told),
+    )) c.played_text.ensures
 
 pub returns : goal.returns
 returns g c =

@@ -11,9 +11,9 @@ use Rattle.decoding.specs.declared.encoding.encode_refusal.EncodeRefusal.TheVari
 use Rattle.demo.proofs.inked.monday.encoded.Goals as goal
 
 granted : (m : Meaning) (code : Code) (letters buffer : List ℕ) → m.arithmetic.size ≤ code.letters → EncodeLengths code letters buffer → AllBelow code.letters letters → (refusal : EncodeRefusal) → EncodeRefused m code letters buffer refusal → ⊥
-granted m code letters buffer all lengths below PartAlphabet r = omega arith
-granted m code letters buffer all lengths below WrongLength r = r.1 lengths
-granted m code letters buffer all lengths below NoLetter r = r.2 below
+granted m code letters buffer all lengths below PartAlphabet r = let part = r.1 in omega arith
+granted m code letters buffer all lengths below WrongLength r = r.2 lengths
+granted m code letters buffer all lengths below NoLetter r = r.3 below
 
 on_inked : (letters buffer : List ℕ) → length letters ≡ 12 → length buffer ≡ 20 → AllBelow 37 letters → (refusal : EncodeRefusal) → EncodeRefused (with_inverses (modulo 37)) (row_code inked) letters buffer refusal → ⊥
 on_inked letters buffer twelve twenty below = granted (with_inverses (modulo 37)) (row_code inked) letters buffer (omega arith) (record { data_each = omega arith; a_place_each = twenty }) below

@@ -1,4 +1,4 @@
-use Rattle.std.proofs.Common.{◌++◌, decimal, refl, codes, ap, sym, ◌∙◌}
+use Rattle.std.proofs.Common.{◌++◌, refl, codes, ap, sym}
 use Rattle.std.proofs.lemmas.Grind.{put_two}
 use Rattle.tags.specs.declared.marks.line.LineRefusal.{LineRefusal}
 use Rattle.demo.specs.inked.Texts.{line_word, line_fault}
@@ -18,5 +18,4 @@ returns-in-BadMark-clause-writes g c plain done =
     let line = c.args.self.now in
     let start = line_word line.refusal ++ codes ": " in
     put_two g.W.Write.write_str_gives _ _ _ _ _ _ word fault
-    (ap (λ cell. start ++ (codes "mark " ++ (decimal cell ++ codes " is no letter and no '?'"))) c.saturating_add-cell.ensures
-    ∙ ap (λ (r : LineRefusal). start ++ line_fault line.wanted line.marks r) (sym c.in-BadMark.is))
+    (ap (λ (r : LineRefusal). start ++ line_fault line.wanted line.marks r) (sym c.in-BadMark.is))
