@@ -36,17 +36,18 @@ fn data_letters() -> [u32; DATA]
     letters
 }
 
-// Notes the word with its first cells left as they are and those after them wrong. The tag is still
-// one of its card.
+// Notes a word of the card with its first cells left as they are and those after them wrong. The
+// tag is still one of its card, whatever the numbers are.
 pub fn note_damaged(tag: &mut Tag<'_, BinaryField>, word: &[u32; CELLS], damage: Damage)
-    requires { Codeword (tag_arithmetic tag.old) (tag_code tag.old) word.now }
     ensures card { tag.new.card.now ≡ tag.old.card.now }
-    ensures cells { NotedDamaged damage word.now (tag_cells tag.old) (tag_cells tag.new) }
+    ensures cells { Codeword (tag_arithmetic tag.old) (tag_code tag.old) word.now
+        → NotedDamaged damage word.now (tag_cells tag.old) (tag_cells tag.new) }
 {
     for j in 0..CELLS {
         if let Some(letter) = damage.noted(j, word[j]) {
-            // The cell is one of the tag, and the letter one of its alphabet.
-            tag.note(j + 1, letter).unwrap();
+            // Refused where there is no such cell or the number is no letter: never for a word of
+            // the card.
+            let _ = tag.note(j + 1, letter);
         }
     }
 }
