@@ -16,7 +16,7 @@ use codes::Card;
 use fields::LetteredField;
 
 /// How a play ended. A play has all three, whichever way it ends.
-#[derive(Clone, Copy)]
+#[derive(Clone, Copy, PartialEq, Eq, Debug)]
 pub struct Played<'a> {
     /// How many events were played: they stand in the first places of the journal.
     pub events: usize,
