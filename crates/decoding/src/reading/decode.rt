@@ -8,7 +8,6 @@ use crate::reading::candidate::fill_candidate;
 use crate::reading::found::FoundCells;
 use crate::reading::roots::erase_roots;
 use algebra::{COEFFICIENTS, LARGEST_CELLS, LARGEST_ROWS};
-use arrayvec::ArrayVec;
 use codes::Cell;
 use fields::LetteredField;
 
@@ -31,8 +30,9 @@ impl<'a, F: LetteredField> FoundCells<'a, F> {
         if 2 * degree > over.code.rows - self.blank {
             return None;
         }
-        let mut left: ArrayVec<Cell, LARGEST_CELLS> = ArrayVec::try_from(self.cells).unwrap();
-        let left = left.as_mut_slice();
+        let mut left = [Cell::blank(); LARGEST_CELLS];
+        let left = &mut left[..self.cells.len()];
+        left.copy_from_slice(self.cells);
         // From here on only the erased cells are gone through row by row: an erased letter's part
         // leaves the sums, a filled one's comes in.
         erase_roots(self.card, &locator[..degree + 1], left, row_sums);

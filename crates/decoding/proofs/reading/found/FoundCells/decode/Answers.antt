@@ -27,10 +27,8 @@ fill_candidate-requires-clause-few g c =
     let d = c.error_locator-degree.result in
     let f = c.error_locator-degree.new.locator in
     let rows = ap (λ (x : Code). x.rows) c.over-over.ensures.values in
-    let made = rw c.unwrap-left.ensures at c.try_from.ensures in
-    let copied = c.as_mut_slice-left.ensures.value ∙ made.0 in
     let is : c.erase_roots.new.cells ≡ erased m.arithmetic (take (suc d) f) code.locators found.cells.now =
-    c.erase_roots.ensures.cells ∙ ap₂ (λ n (l : List Cell). erased m.arithmetic (take n f) code.locators l) (add-one d) copied in
+    c.erase_roots.ensures.cells ∙ ap₂ (λ n (l : List Cell). erased m.arithmetic (take n f) code.locators l) (add-one d) c.copy_from_slice.ensures.after in
     let few = left_few m code card.checked found.cells.now found.long c.requires.lettered
     (omega (arith, found.few, found.counted)) d f c.error_locator-degree.ensures.locates (omega (arith, c.if-degree-over.false, found.counted, rows)) in
     omega (arith, few, ap blanks is)
@@ -44,10 +42,8 @@ returns g c =
     let code = card_code card in
     let d = c.error_locator-degree.result in
     let f = c.error_locator-degree.new.locator in
-    let made = rw c.unwrap-left.ensures at c.try_from.ensures in
-    let copied = c.as_mut_slice-left.ensures.value ∙ made.0 in
     let is : c.erase_roots.new.cells ≡ erased A (take (suc d) f) code.locators found.cells.now =
-    c.erase_roots.ensures.cells ∙ ap₂ (λ n (l : List Cell). erased A (take n f) code.locators l) (add-one d) copied in
+    c.erase_roots.ensures.cells ∙ ap₂ (λ n (l : List Cell). erased A (take n f) code.locators l) (add-one d) c.copy_from_slice.ensures.after in
     let filled-is = c.fill_candidate.ensures.word
     ∙ ap (filled m code c.erase_roots.new.cells) c.erase_roots.ensures.sums
     ∙ ap (λ (l : List Cell). filled m code l (syndromes A code l)) is in
