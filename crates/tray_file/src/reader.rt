@@ -19,7 +19,6 @@ pub use kind::{Kind, NoSuchKind};
 pub use limits::LONGEST_FILE;
 pub use record::Record;
 use record::record_of;
-use std::mem;
 pub use whole_file::check_file;
 
 /// A reader over a file's bytes, which answers one record after another. The bytes may be any. It
@@ -95,11 +94,10 @@ impl<'a> TrayReader<'a> {
         if self.place >= self.file.len() {
             return None;
         }
-        match read_record(self.file, self.place, &self.turn, &mut self.cells) {
+        match read_record(self.file, self.place, &mut self.turn, &mut self.cells) {
             Ok(step) => {
                 let body = part(self.file, step.body, step.end);
                 self.place = step.end;
-                self.turn = mem::replace(&mut self.turn, Turn::Start).after(step.passed);
                 Some(Ok(record_of(step.kind, body)))
             }
             Err(fault) => {

@@ -19,28 +19,27 @@ use Rattle.tray_file.specs.declared.fault.Fault.{Fault}
 use Rattle.tray_file.specs.declared.reader.kind.Kind.{Kind}
 use Rattle.tray_file.specs.declared.reader.kind.Kind.TheVariants as kinds
 use Rattle.tray_file.specs.declared.reader.turn.Turn.{Turn}
-use Rattle.tray_file.specs.declared.reader.turn.Turn.TheVariants.{Start, InTurn, AfterNote}
+use Rattle.tray_file.specs.declared.reader.turn.Turn.TheVariants.{Start, After}
+use Rattle.tray_file.specs.declared.reader.turn.Allowed.TheVariants.{EveryKind, NoNote}
 use Rattle.tray_file.proofs.reader_lemmas.OneRecord.{one_kind, number_never, not_out, refused_in_turn, same_entry, empty_never, header_never, record_never}
 
 -- one thing is in turn after a body
 one_next : (kind : Kind) (turn : Turn) (body : List ℕ) (a b : Turn) → Done kind turn body a → Done kind turn body b → a ≡ b
-one_next kinds.Card turn body a b done also = done.2 ∙ ap (λ c. InTurn c) (one_card body done.0 also.0 done.1 also.1) ∙ sym also.2
+one_next kinds.Card turn body a b done also = done.2 ∙ ap (λ c. After c EveryKind) (one_card body done.0 also.0 done.1 also.1) ∙ sym also.2
 one_next kinds.Cells Start body a b done also = absurd done
-one_next kinds.Cells (InTurn card) body a b done also = done.1 ∙ sym also.1
-one_next kinds.Cells (AfterNote card) body a b done also = done.1 ∙ sym also.1
+one_next kinds.Cells (After card allowed) body a b done also = done.1 ∙ sym also.1
 one_next kinds.Note Start body a b done also = absurd done
-one_next kinds.Note (InTurn card) body a b done also = done.1 ∙ sym also.1
-one_next kinds.Note (AfterNote card) body a b done also = absurd done
+one_next kinds.Note (After card EveryKind) body a b done also = done.1 ∙ sym also.1
+one_next kinds.Note (After card NoNote) body a b done also = absurd done
 
 -- a body is refused in one way
 one_body_fault : (kind : Kind) (turn : Turn) (body : List ℕ) (f g : BodyFault) → BodyRefused kind turn body f → BodyRefused kind turn body g → f ≡ g
 one_body_fault kinds.Card turn body f g refused also = one_card_fault body f g refused also
 one_body_fault kinds.Cells Start body f g refused also = absurd refused
-one_body_fault kinds.Cells (InTurn card) body f g refused also = one_cells_fault _ _ body f g refused also
-one_body_fault kinds.Cells (AfterNote card) body f g refused also = one_cells_fault _ _ body f g refused also
+one_body_fault kinds.Cells (After card allowed) body f g refused also = one_cells_fault _ _ body f g refused also
 one_body_fault kinds.Note Start body f g refused also = absurd refused
-one_body_fault kinds.Note (InTurn card) body f g refused also = refused.2 ∙ sym also.2
-one_body_fault kinds.Note (AfterNote card) body f g refused also = absurd refused
+one_body_fault kinds.Note (After card EveryKind) body f g refused also = refused.2 ∙ sym also.2
+one_body_fault kinds.Note (After card NoNote) body f g refused also = absurd refused
 
 -- a number is missing in one way
 one_cause : (bytes : List ℕ) (c d : NumberCause) → NumberRefused bytes c → NumberRefused bytes d → c ≡ d

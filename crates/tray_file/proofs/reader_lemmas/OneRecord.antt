@@ -20,38 +20,36 @@ use Rattle.tray_file.specs.declared.fault.Fault.{Fault}
 use Rattle.tray_file.specs.declared.reader.kind.Kind.{Kind}
 use Rattle.tray_file.specs.declared.reader.kind.Kind.TheVariants as kinds
 use Rattle.tray_file.specs.declared.reader.turn.Turn.{Turn}
-use Rattle.tray_file.specs.declared.reader.turn.Turn.TheVariants.{Start, InTurn, AfterNote}
+use Rattle.tray_file.specs.declared.reader.turn.Turn.TheVariants.{Start, After}
+use Rattle.tray_file.specs.declared.reader.turn.Allowed.TheVariants.{EveryKind, NoNote}
 use Rattle.tray_file.proofs.reader_lemmas.HeaderPlaces.{some_bytes}
 
 -- what is done is in turn
 pub done_in_turn : (kind : Kind) (turn : Turn) (body : List ℕ) (next : Turn) → Done kind turn body next → is_in_turn kind turn ≡ true
 done_in_turn kinds.Card turn body next done = refl
 done_in_turn kinds.Cells Start body next done = absurd done
-done_in_turn kinds.Cells (InTurn card) body next done = refl
-done_in_turn kinds.Cells (AfterNote card) body next done = refl
+done_in_turn kinds.Cells (After card allowed) body next done = refl
 done_in_turn kinds.Note Start body next done = absurd done
-done_in_turn kinds.Note (InTurn card) body next done = refl
-done_in_turn kinds.Note (AfterNote card) body next done = absurd done
+done_in_turn kinds.Note (After card EveryKind) body next done = refl
+done_in_turn kinds.Note (After card NoNote) body next done = absurd done
 
 -- a body that is refused is in turn
 pub refused_in_turn : (kind : Kind) (turn : Turn) (body : List ℕ) (fault : BodyFault) → BodyRefused kind turn body fault → is_in_turn kind turn ≡ true
 refused_in_turn kinds.Card turn body fault refused = refl
 refused_in_turn kinds.Cells Start body fault refused = absurd refused
-refused_in_turn kinds.Cells (InTurn card) body fault refused = refl
-refused_in_turn kinds.Cells (AfterNote card) body fault refused = refl
+refused_in_turn kinds.Cells (After card allowed) body fault refused = refl
 refused_in_turn kinds.Note Start body fault refused = absurd refused
-refused_in_turn kinds.Note (InTurn card) body fault refused = refl
-refused_in_turn kinds.Note (AfterNote card) body fault refused = absurd refused
+refused_in_turn kinds.Note (After card EveryKind) body fault refused = refl
+refused_in_turn kinds.Note (After card NoNote) body fault refused = absurd refused
 
 -- a body that is done is not refused
 body_never : (kind : Kind) (turn : Turn) (body : List ℕ) (next : Turn) (fault : BodyFault) → Done kind turn body next → BodyRefused kind turn body fault → ⊥
 body_never kinds.Card turn body next fault done refused = card_never body done.0 fault done.1 refused
 body_never kinds.Cells Start body next fault done refused = done
-body_never kinds.Cells (InTurn card) body next fault done refused = cells_never _ _ body done.0.0 done.0.1 fault refused
-body_never kinds.Cells (AfterNote card) body next fault done refused = cells_never _ _ body done.0.0 done.0.1 fault refused
+body_never kinds.Cells (After card allowed) body next fault done refused = cells_never _ _ body done.0.0 done.0.1 fault refused
 body_never kinds.Note Start body next fault done refused = done
-body_never kinds.Note (InTurn card) body next fault done refused = refused.1 done.0
-body_never kinds.Note (AfterNote card) body next fault done refused = done
+body_never kinds.Note (After card EveryKind) body next fault done refused = refused.1 done.0
+body_never kinds.Note (After card NoNote) body next fault done refused = done
 
 kind_small : (kind : Kind) → kind_number kind ≤ largest_number
 kind_small kinds.Card = lit≤ tt

@@ -14,9 +14,7 @@ use Rattle.tray_file.specs.reader.Headers.{after_number, HeaderIn}
 use Rattle.tray_file.specs.reader.Records.{BodyRefused, Done, EntryFirst, KeptCells, BodyWrong, StepIn}
 use Rattle.tray_file.specs.declared.fault.Fault.{Fault}
 use Rattle.tray_file.specs.declared.reader.header.Header.{Header}
-use Rattle.tray_file.specs.reader.Turns.{turn_after}
 use Rattle.tray_file.specs.declared.reader.turn.Turn.{Turn}
-use Rattle.tray_file.specs.declared.reader.turn.Passed.{Passed}
 use Rattle.codes.specs.declared.cell.Cell.{Cell}
 use Rattle.tray_file.proofs.reader_lemmas.HeaderPlaces.{number_ends}
 
@@ -99,10 +97,9 @@ module _ (turn : Turn) (place : ℕ) (file : List ℕ) (header : Header) (h : He
   place_is : header.body ≡ body_place place (entry header.kind body)
   place_is = h.body_place ∙ ap (λ n. place + length (number_bytes k) + length (number_bytes n)) (sym body_long)
 
-  pub step_in : (before after : List Cell) (passed : Passed) → Done header.kind turn body (turn_after turn passed) →
-      KeptCells header.kind (turn_after turn passed) body before after →
-      StepIn turn place file before after (record { kind = header.kind; body = header.body; end = header.end; passed = passed })
-  step_in before after passed done kept = record {
+  pub step_in : (next : Turn) (before after : List Cell) → Done header.kind turn body next → KeptCells header.kind next body before after →
+      StepIn turn next place file before after (record { kind = header.kind; body = header.body; end = header.end })
+  step_in next before after done kept = record {
     order = order;
     within = within;
     place_is = place_is;

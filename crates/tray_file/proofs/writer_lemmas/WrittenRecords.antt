@@ -28,7 +28,8 @@ use Rattle.tray_file.specs.reader.Readers.{left_of}
 use Rattle.tray_file.specs.declared.reader.kind.Kind.TheVariants as kinds
 use Rattle.tray_file.specs.declared.reader.TrayReader.{TrayReader}
 use Rattle.tray_file.specs.declared.reader.turn.Turn.{Turn}
-use Rattle.tray_file.specs.declared.reader.turn.Turn.TheVariants.{Start, InTurn, AfterNote}
+use Rattle.tray_file.specs.declared.reader.turn.Turn.TheVariants.{Start, After}
+use Rattle.tray_file.specs.declared.reader.turn.Allowed.TheVariants.{EveryKind, NoNote}
 use Rattle.tray_file.proofs.reader_lemmas.RecordPlaces.{first_of}
 use Rattle.tray_file.proofs.reader_lemmas.OneRecord.{record_reads_back}
 use Rattle.tray_file.specs.reader.RecordKinds.{kind_number}
@@ -63,7 +64,7 @@ card_short (Prime card) = body_short 1 card.field.prime (prime_meaning card.fiel
 card_short (Binary card) = body_short 2 card.field.modulus (binary_meaning card.field) (card_code card) card.checked
 
 card_follows : (card : AnyCard) (turn : Turn) → (next : Turn) × Follows turn (entry kinds.Card (tray_body card)) next
-card_follows card turn = (InTurn card, record { small = card_short card; done = (card, card_in card, refl) })
+card_follows card turn = (After card EveryKind, record { small = card_short card; done = (card, card_in card, refl) })
 
 pub card_comes_back : (card : AnyCard) → CardComesBack card
 card_comes_back card = record {
@@ -83,27 +84,34 @@ module _ (m : Meaning) (code : Code) (cells : List Cell) (checked : Checked m co
   cells_short : length (cells_body cells) ≤ largest_number
   cells_short = omega (arith, numbers_short (map cell_number cells), length-map cells cell_number, checked.shape.sizes.most_cells)
 
-  cells_done : (card : AnyCard) → any_code card ≡ code → CellsUnder card (cells_body cells) cells
-  cells_done card is = subst (λ (c : Code). CellsIn (length c.locators) c.letters (cells_body cells) cells) (sym is) cells_in
+  cells_done : (card : AnyCard) → length (any_code card).locators ≡ length code.locators → (any_code card).letters ≡ code.letters →
+      CellsUnder card (cells_body cells) cells
+  cells_done card long letters =
+      subst (λ (n : ℕ). CellsIn n (any_code card).letters (cells_body cells) cells) (sym long)
+      (subst (λ (q : ℕ). CellsIn (length code.locators) q (cells_body cells) cells) (sym letters) cells_in)
 
-  cells_follow : (turn : Turn) (card : AnyCard) → last_card turn ≡ Some card → any_code card ≡ code →
-      (next : Turn) × Follows turn (entry kinds.Cells (cells_body cells)) next
-  cells_follow Start card last is = absurd (none-some card last)
-  cells_follow (InTurn other) card last is =
-      (InTurn other, record { small = cells_short; done = ((cells, cells_done other (ap any_code (same_Some other card last) ∙ is)), refl) })
-  cells_follow (AfterNote other) card last is =
-      (InTurn other, record { small = cells_short; done = ((cells, cells_done other (ap any_code (same_Some other card last) ∙ is)), refl) })
+  -- under a card that is the last one
+  under_last : (other card : AnyCard) → other ≡ card → length (any_code card).locators ≡ length code.locators → (any_code card).letters ≡ code.letters →
+      CellsUnder other (cells_body cells) cells
+  under_last other card same long letters =
+      cells_done other (ap (λ (c : AnyCard). length (any_code c).locators) same ∙ long) (ap (λ (c : AnyCard). (any_code c).letters) same ∙ letters)
+
+  cells_follow : (turn : Turn) (card : AnyCard) → last_card turn ≡ Some card → length (any_code card).locators ≡ length code.locators →
+      (any_code card).letters ≡ code.letters → (next : Turn) × Follows turn (entry kinds.Cells (cells_body cells)) next
+  cells_follow Start card last long letters = absurd (none-some card last)
+  cells_follow (After other allowed) card last long letters =
+      (After other EveryKind, record { small = cells_short; done = ((cells, under_last other card (same_Some other card last) long letters), refl) })
 
   pub cells_come_back : CellsComeBack code cells
   cells_come_back = record {
-    answered = comes_back (UnderCard code) (entry kinds.Cells (cells_body cells)) (λ reader ready. cells_follow reader.turn ready.0 ready.1 ready.2);
+    answered = comes_back (UnderCard code) (entry kinds.Cells (cells_body cells)) (λ reader ready. cells_follow reader.turn ready.0 ready.1 ready.2 ready.3);
     read = λ buffer after r long read. cells_read_back code (cells_body cells) cells buffer after r cells_in long read;
   }
 
-note_follows : (note : List ℕ) → PlainNote note → (turn : Turn) (card : AnyCard) → turn ≡ InTurn card → (next : Turn) × Follows turn (entry kinds.Note note) next
+note_follows : (note : List ℕ) → PlainNote note → (turn : Turn) (card : AnyCard) → turn ≡ After card EveryKind → (next : Turn) × Follows turn (entry kinds.Note note) next
 note_follows note plain turn card is = (
-  AfterNote card,
-  record { small = omega (arith, plain.short); done = subst (λ (t : Turn). Done kinds.Note t note (AfterNote card)) (sym is) (plain, refl) },
+  After card NoNote,
+  record { small = omega (arith, plain.short); done = subst (λ (t : Turn). Done kinds.Note t note (After card NoNote)) (sym is) (plain, refl) },
 )
 
 pub note_comes_back : (note : List ℕ) → PlainNote note → NoteComesBack note
@@ -157,11 +165,10 @@ done_is_made : (kind : Kind) (turn : Turn) (body : List ℕ) (next : Turn) → D
 done_is_made kinds.Card turn body next done =
     (done.0, subst (λ (l : List ℕ). Makes (CardWritten done.0) (entry kinds.Card l)) (sym (card_is_written body done.0 done.1)) (record_made kinds.Card (tray_body done.0)))
 done_is_made kinds.Cells Start body next done = absurd done
-done_is_made kinds.Cells (InTurn card) body next done = (card, refl, done.0.0, under_is_made card body done.0.0 done.0.1)
-done_is_made kinds.Cells (AfterNote card) body next done = (card, refl, done.0.0, under_is_made card body done.0.0 done.0.1)
+done_is_made kinds.Cells (After card allowed) body next done = (card, refl, done.0.0, under_is_made card body done.0.0 done.0.1)
 done_is_made kinds.Note Start body next done = absurd done
-done_is_made kinds.Note (InTurn card) body next done = note_made body done.0
-done_is_made kinds.Note (AfterNote card) body next done = absurd done
+done_is_made kinds.Note (After card EveryKind) body next done = note_made body done.0
+done_is_made kinds.Note (After card NoNote) body next done = absurd done
 
 pub accepted_is_made : AcceptedIsMade
 accepted_is_made turn e next follows = done_is_made e.kind turn e.body next follows.done

@@ -11,28 +11,26 @@ use Rattle.tray_file.specs.declared.fault.body_fault.BodyFault.{BodyFault}
 use Rattle.tray_file.specs.declared.fault.body_fault.BodyFault.TheVariants.{BadNote}
 use Rattle.tray_file.specs.fault.Layers.{body_fault_number}
 use Rattle.tray_file.specs.fault.Faults.{body_fault, fault_number}
-use Rattle.tray_file.specs.reader.Turns.{turn_after}
 use Rattle.tray_file.specs.reader.Entries.{Entry, entry, entry_bytes, body_place}
 use Rattle.tray_file.specs.reader.Headers.{HeaderRefused}
 use Rattle.tray_file.specs.declared.fault.Fault.{Fault}
 use Rattle.tray_file.specs.declared.reader.kind.Kind.{Kind}
 use Rattle.tray_file.specs.declared.reader.kind.Kind.TheVariants.{Card, Cells, Note}
 use Rattle.tray_file.specs.declared.reader.turn.Turn.{Turn}
-use Rattle.tray_file.specs.declared.reader.turn.Turn.TheVariants.{Start, InTurn, AfterNote}
+use Rattle.tray_file.specs.declared.reader.turn.Turn.TheVariants.{Start, After}
+use Rattle.tray_file.specs.declared.reader.turn.Allowed.TheVariants.{EveryKind, NoNote}
 use Rattle.tray_file.specs.declared.reader.record_reading.Step.{Step}
 
 -- A body in its turn, and what is in turn after it: a card, which replaces the last one, cells
 -- under the last card, or a plain note. Out of turn there is none.
 abbrev pub Done : Kind → Turn → List ℕ → Turn → Type 0
-Done Card turn body next = (card : AnyCard) × CardIn body card × (next ≡ InTurn card)
+Done Card turn body next = (card : AnyCard) × CardIn body card × (next ≡ After card EveryKind)
 Done Cells Start body next = ⊥
-Done Cells (InTurn card) body next =
-    ((cells : List Cell) × CellsUnder card body cells) × (next ≡ InTurn card)
-Done Cells (AfterNote card) body next =
-    ((cells : List Cell) × CellsUnder card body cells) × (next ≡ InTurn card)
+Done Cells (After card allowed) body next =
+    ((cells : List Cell) × CellsUnder card body cells) × (next ≡ After card EveryKind)
 Done Note Start body next = ⊥
-Done Note (InTurn card) body next = PlainNote body × (next ≡ AfterNote card)
-Done Note (AfterNote card) body next = ⊥
+Done Note (After card EveryKind) body next = PlainNote body × (next ≡ After card NoNote)
+Done Note (After card NoNote) body next = ⊥
 
 -- why a note is refused
 abbrev pub NoteRefused : List ℕ → BodyFault → Type 0
@@ -43,11 +41,10 @@ NoteRefused body fault =
 abbrev pub BodyRefused : Kind → Turn → List ℕ → BodyFault → Type 0
 BodyRefused Card turn body fault = CardRead body (Err fault)
 BodyRefused Cells Start body fault = ⊥
-BodyRefused Cells (InTurn card) body fault = CellsRefusedUnder card body fault
-BodyRefused Cells (AfterNote card) body fault = CellsRefusedUnder card body fault
+BodyRefused Cells (After card allowed) body fault = CellsRefusedUnder card body fault
 BodyRefused Note Start body fault = ⊥
-BodyRefused Note (InTurn card) body fault = NoteRefused body fault
-BodyRefused Note (AfterNote card) body fault = ⊥
+BodyRefused Note (After card EveryKind) body fault = NoteRefused body fault
+BodyRefused Note (After card NoNote) body fault = ⊥
 
 -- an entry in its turn, and what is in turn after it
 pub record Follows (turn : Turn) (e : Entry) (next : Turn) : Type 0 where
@@ -85,24 +82,25 @@ abbrev pub KeptCells : Kind → Turn → List ℕ → List Cell → List Cell �
 KeptCells Card next body before after = after ≡ before
 KeptCells Note next body before after = after ≡ before
 KeptCells Cells Start body before after = ⊥
-KeptCells Cells (InTurn card) body before after = CellsUnder card body after
-KeptCells Cells (AfterNote card) body before after = ⊥
+KeptCells Cells (After card EveryKind) body before after = CellsUnder card body after
+KeptCells Cells (After card NoNote) body before after = ⊥
 
 -- the same, with the body as a part of the file
-pub record StepIn (turn : Turn) (place : ℕ) (file : List ℕ) (before after : List Cell)
+pub record StepIn (turn next : Turn) (place : ℕ) (file : List ℕ) (before after : List Cell)
     (step : Step) : Type 0 where
   pub order : step.body ≤ step.end
   pub within : step.end ≤ length file
   pub place_is : step.body
       ≡ body_place place (entry step.kind (between step.body step.end file))
   pub here : RecordIn turn place (drop place file)
-      (entry step.kind (between step.body step.end file)) step.end (turn_after turn step.passed)
-  pub cells : KeptCells step.kind (turn_after turn step.passed)
-      (between step.body step.end file) before after
+      (entry step.kind (between step.body step.end file)) step.end next
+  pub cells : KeptCells step.kind next (between step.body step.end file) before after
 
--- The record that begins at a place of the file, in its turn, or the fault of that place. A fault
--- leaves the cells.
-abbrev pub RecordRead : Turn → ℕ → List ℕ → List Cell → List Cell → Result Step Fault → Type 0
-RecordRead turn place file before after (Ok step) = StepIn turn place file before after step
-RecordRead turn place file before after (Err fault) =
-    RecordRefused turn place (drop place file) fault × (after ≡ before)
+-- The record that begins at a place of the file, in its turn, and what is in turn after it, or the
+-- fault of that place. A fault leaves the turn and the cells.
+abbrev pub RecordRead : Turn → Turn → ℕ → List ℕ → List Cell → List Cell → Result Step Fault
+    → Type 0
+RecordRead turn next place file before after (Ok step) =
+    StepIn turn next place file before after step
+RecordRead turn next place file before after (Err fault) =
+    RecordRefused turn place (drop place file) fault × (next ≡ turn) × (after ≡ before)

@@ -5,28 +5,25 @@ use Rattle.codes.specs.declared.any_card.AnyCard.{AnyCard}
 use Rattle.tray_file.specs.declared.reader.kind.Kind.{Kind}
 use Rattle.tray_file.specs.declared.reader.kind.Kind.TheVariants as kind
 use Rattle.tray_file.specs.declared.reader.turn.Turn.{Turn}
-use Rattle.tray_file.specs.declared.reader.turn.Turn.TheVariants.{Start, InTurn, AfterNote}
+use Rattle.tray_file.specs.declared.reader.turn.Turn.TheVariants.{Start, After}
+use Rattle.tray_file.specs.declared.reader.turn.Allowed.TheVariants.{EveryKind, NoNote}
 use Rattle.tray_file.specs.declared.reader.turn.Task.{Task}
 use Rattle.tray_file.specs.declared.reader.turn.Task.TheVariants as task
-use Rattle.tray_file.specs.declared.reader.turn.Passed.{Passed}
-use Rattle.tray_file.specs.declared.reader.turn.Passed.TheVariants as passed
 
 -- At the start only a card is in turn; after a card or cells every kind is; after a note, a second
 -- note is not.
 abbrev pub is_in_turn : Kind → Turn → Bool
 is_in_turn kind.Card turn = true
 is_in_turn kind.Cells Start = false
-is_in_turn kind.Cells (InTurn card) = true
-is_in_turn kind.Cells (AfterNote card) = true
+is_in_turn kind.Cells (After card allowed) = true
 is_in_turn kind.Note Start = false
-is_in_turn kind.Note (InTurn card) = true
-is_in_turn kind.Note (AfterNote card) = false
+is_in_turn kind.Note (After card EveryKind) = true
+is_in_turn kind.Note (After card NoNote) = false
 
 -- the last card that was read
 abbrev pub last_card : Turn → Option AnyCard
 last_card Start = None
-last_card (InTurn card) = Some card
-last_card (AfterNote card) = Some card
+last_card (After card allowed) = Some card
 
 abbrev pub lent_card : Option (Bor AnyCard) → Option AnyCard
 lent_card None = None
@@ -48,12 +45,9 @@ abbrev pub TaskOf : Turn → Kind → Option Task → Type 0
 TaskOf turn kind None = is_in_turn kind turn ≡ false
 TaskOf turn kind (Some task) = (is_in_turn kind turn ≡ true) × TaskFor kind turn task
 
--- what is in turn after a record more: a new card replaces the old one
-abbrev pub turn_after : Turn → Passed → Turn
-turn_after turn (passed.Card card) = InTurn card
-turn_after Start passed.Cells = Start
-turn_after (InTurn card) passed.Cells = InTurn card
-turn_after (AfterNote card) passed.Cells = InTurn card
-turn_after Start passed.Note = Start
-turn_after (InTurn card) passed.Note = AfterNote card
-turn_after (AfterNote card) passed.Note = AfterNote card
+-- what is in turn after a record of the kind more, under the same card
+abbrev pub turn_after : Turn → Kind → Turn
+turn_after Start kind = Start
+turn_after (After card allowed) kind.Card = After card EveryKind
+turn_after (After card allowed) kind.Cells = After card EveryKind
+turn_after (After card allowed) kind.Note = After card NoNote

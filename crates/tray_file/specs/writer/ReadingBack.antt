@@ -16,7 +16,8 @@ use Rattle.tray_file.specs.declared.reader.record.Record.{Record}
 use Rattle.tray_file.specs.declared.reader.TrayReader.{TrayReader}
 use Rattle.tray_file.specs.declared.reader.turn.Turn.{Turn}
 use Rattle.tray_file.specs.reader.Turns.{last_card}
-use Rattle.tray_file.specs.declared.reader.turn.Turn.TheVariants.{InTurn}
+use Rattle.tray_file.specs.declared.reader.turn.Turn.TheVariants.{After}
+use Rattle.tray_file.specs.declared.reader.turn.Allowed.TheVariants.{EveryKind}
 use Rattle.tray_file.specs.declared.reader.kind.Kind.{Kind}
 use Rattle.tray_file.specs.reader.Records.{Follows}
 use Rattle.tray_file.specs.writer.Writers.{tray_body, CardWritten, CellsWritten, NoteWritten}
@@ -36,12 +37,15 @@ pub record CardComesBack (card : AnyCard) : Type 0 where
   pub answered : EntryComesBack (λ reader. Unit {0}) (entry Card (tray_body card))
   pub read : (r : Result AnyCard BodyFault) → CardRead (tray_body card) r → r ≡ Ok card
 
--- the last card that the reader has read has these values
+-- the last card that the reader has read has as many cells, and the same alphabet size
 abbrev pub UnderCard : Code → TrayReader → Type 0
 UnderCard code reader =
-    (card : AnyCard) × (last_card reader.turn ≡ Some card) × (any_code card ≡ code)
+    (card : AnyCard) × (last_card reader.turn ≡ Some card)
+    × (length (any_code card).locators ≡ length code.locators)
+    × ((any_code card).letters ≡ code.letters)
 
--- Cells come back under their card, and their body is read as the same cells.
+-- Cells come back under every card of their size and alphabet, and their body is read as the same
+-- cells.
 pub record CellsComeBack (code : Code) (cells : List Cell) : Type 0 where
   pub answered : EntryComesBack (UnderCard code) (entry Cells (cells_body cells))
   pub read : (buffer after : List Cell) (r : Result (Unit {0}) CellsRefusal)
@@ -50,7 +54,7 @@ pub record CellsComeBack (code : Code) (cells : List Cell) : Type 0 where
 
 -- the reader has read a card or cells last
 abbrev pub AfterCardOrCells : TrayReader → Type 0
-AfterCardOrCells reader = (card : AnyCard) × (reader.turn ≡ InTurn card)
+AfterCardOrCells reader = (card : AnyCard) × (reader.turn ≡ After card EveryKind)
 
 -- A note comes back after a card or cells.
 abbrev pub NoteComesBack : List ℕ → Type 0

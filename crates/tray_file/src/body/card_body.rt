@@ -1,4 +1,6 @@
 // Reads a card from a record's body.
+ghost use Rattle.std.specs.Prelude.{◌≡◌};
+ghost use Rattle.fields.specs.Kinds.{prime_kind, binary_kind};
 ghost use Rattle.tray_file.specs.body.CardBodies.{HeadStands, CardOver, CardRead};
 ghost use Rattle.tray_file.specs.body.OneReading.{CardReadsBack, OneCardAnswer};
 
@@ -18,19 +20,31 @@ pub fn read_card(body: &[u8]) -> Result<AnyCard, BodyFault>
     ensures one { OneCardAnswer }
 {
     let read = read_head(body)?;
-    let origin = read.head.origin;
     // Each kind of field states its own number, which the reader and the writer of cards read.
     match read.head.kind {
-        PrimeField::KIND => {
-            let field = PrimeField::new(origin)?;
-            Ok(AnyCard::Prime(card_over(field, read, body)?))
-        }
-        BinaryField::KIND => {
-            let field = BinaryField::new(origin)?;
-            Ok(AnyCard::Binary(card_over(field, read, body)?))
-        }
+        PrimeField::KIND => prime_card(read, body),
+        BinaryField::KIND => binary_card(read, body),
         _ => Err(NoSuchField.into()),
     }
+}
+
+// A function for each kind: one that had cards of both among its locals would clear room for both.
+fn prime_card(read: ReadHead, body: &[u8]) -> Result<AnyCard, BodyFault>
+    requires stands { HeadStands read body.now }
+    requires kind { read.head.kind ≡ prime_kind }
+    ensures { CardRead body.now result }
+{
+    let field = PrimeField::new(read.head.origin)?;
+    Ok(AnyCard::Prime(card_over(field, read, body)?))
+}
+
+fn binary_card(read: ReadHead, body: &[u8]) -> Result<AnyCard, BodyFault>
+    requires stands { HeadStands read body.now }
+    requires kind { read.head.kind ≡ binary_kind }
+    ensures { CardRead body.now result }
+{
+    let field = BinaryField::new(read.head.origin)?;
+    Ok(AnyCard::Binary(card_over(field, read, body)?))
 }
 
 // The rest of the card, over the field that its head names.

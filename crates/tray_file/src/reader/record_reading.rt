@@ -3,44 +3,53 @@ ghost use Rattle.std.specs.Prelude.{◌≡◌, ◌≤◌, length};
 ghost use Rattle.std.specs.List.{between};
 ghost use Rattle.tray_file.specs.reader.Entries.{VeryPart};
 ghost use Rattle.tray_file.specs.reader.Records.{RecordRead};
-ghost use Rattle.tray_file.specs.reader.Tasks.{BodyChecked};
+ghost use Rattle.tray_file.specs.reader.Tasks.{NextCard, NoteChecked};
 
 use crate::body::{CellList, is_plain, list_cells, read_card};
 use crate::fault::{BodyFault, Fault, placed_body};
 use crate::reader::header::read_header;
 use crate::reader::kind::Kind;
-use crate::reader::turn::{Passed, Task, Turn};
+use crate::reader::turn::{Allowed, Task, Turn};
 
-// A record's kind, the places of its body's first byte and after its last, and what the body was
-// read as.
-#[derive(Drop)]
+// A record's kind, and the places of its body's first byte and after its last.
+#[derive(Clone, Copy)]
 pub(crate) struct Step {
     pub kind: Kind,
     pub body: usize,
     pub end: usize,
-    pub passed: Passed,
 }
 
-// The cells of a cells record are put into `cells`, in place of those before.
+// A card that was read is put into `turn`, in place of the one before, and the cells of a cells
+// record into `cells`. A function with a card among its locals clears room for it at each call, so a
+// card is read in one of its own.
 pub(crate) fn read_record(
     file: &[u8],
     place: usize,
-    turn: &Turn,
+    turn: &mut Turn,
     cells: &mut CellList,
 ) -> Result<Step, Fault>
-    ensures { RecordRead turn.now place file.now cells.old.items cells.new.items result }
+    ensures { RecordRead turn.old turn.new place file.now cells.old.items cells.new.items result }
 {
     let header = read_header(file, place, turn)?;
+    let kind = header.kind;
     let start = header.body;
     let end = header.end;
+    let body = part(file, start, end);
+    let read = match header.task {
+        Task::Card => read_next_card(body, turn),
+        Task::Cells(card) => list_cells(card, body, cells),
+        Task::Note => check_note(body),
+    };
     // A closure for `map_err` would need the clauses of `placed_body` written out once more.
-    match check_body(header.task, part(file, start, end), cells) {
-        Ok(passed) => Ok(Step {
-            kind: header.kind,
-            body: start,
-            end,
-            passed,
-        }),
+    match read {
+        Ok(()) => {
+            turn.pass(kind);
+            Ok(Step {
+                kind,
+                body: start,
+                end,
+            })
+        }
         Err(fault) => Err(placed_body(place, start, fault)),
     }
 }
@@ -55,22 +64,20 @@ pub(crate) fn part(file: &[u8], start: usize, end: usize) -> &[u8]
     &file[start..end]
 }
 
-// What a body is read as.
-fn check_body(task: Task<'_>, body: &[u8], cells: &mut CellList) -> Result<Passed, BodyFault>
-    ensures { BodyChecked task.entry body.now cells.old.items cells.new.items result }
+// A body that is refused leaves the card before.
+fn read_next_card(body: &[u8], turn: &mut Turn) -> Result<(), BodyFault>
+    ensures { NextCard body.now turn.old turn.new result }
 {
-    match task {
-        Task::Card => Ok(Passed::Card(read_card(body)?)),
-        Task::Cells(card) => {
-            list_cells(card, body, cells)?;
-            Ok(Passed::Cells)
-        }
-        Task::Note => {
-            if is_plain(body) {
-                Ok(Passed::Note)
-            } else {
-                Err(BodyFault::BadNote)
-            }
-        }
+    *turn = Turn::After(read_card(body)?, Allowed::EveryKind);
+    Ok(())
+}
+
+fn check_note(body: &[u8]) -> Result<(), BodyFault>
+    ensures { NoteChecked body.now result }
+{
+    if is_plain(body) {
+        Ok(())
+    } else {
+        Err(BodyFault::BadNote)
     }
 }

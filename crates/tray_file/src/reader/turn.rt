@@ -10,10 +10,18 @@ use codes::AnyCard;
 pub(crate) enum Turn {
     // Nothing was read: only a card is in turn.
     Start,
+    // The card, and what is in turn after the last record. They stand apart, so that cells and notes
+    // leave the card where it is.
+    After(AnyCard, Allowed),
+}
+
+// What is in turn once a card was read.
+#[derive(Clone, Copy)]
+pub(crate) enum Allowed {
     // A card or cells were read: every kind is in turn.
-    InTurn(AnyCard),
+    EveryKind,
     // A note was read: a second note is out of turn.
-    AfterNote(AnyCard),
+    NoNote,
 }
 
 // What a record in turn must be: a card, cells under the card, or a note.
@@ -24,26 +32,17 @@ pub(crate) enum Task<'a> {
     Note,
 }
 
-// A record that was read in its turn. A card is the new one.
-#[derive(Drop)]
-pub(crate) enum Passed {
-    Card(AnyCard),
-    Cells,
-    Note,
-}
-
 // The task of a record of this kind, or nothing where it is out of turn.
 pub(crate) fn task_of(turn: &Turn, kind: Kind) -> Option<Task<'_>>
     ensures { TaskOf turn.now kind result }
 {
     match (turn, kind) {
         (_, Kind::Card) => Some(Task::Card),
-        (Turn::InTurn(card), Kind::Cells) => Some(Task::Cells(card)),
-        (Turn::AfterNote(card), Kind::Cells) => Some(Task::Cells(card)),
-        (Turn::InTurn(_), Kind::Note) => Some(Task::Note),
+        (Turn::After(card, _), Kind::Cells) => Some(Task::Cells(card)),
+        (Turn::After(_, Allowed::EveryKind), Kind::Note) => Some(Task::Note),
         (Turn::Start, Kind::Cells) => None,
         (Turn::Start, Kind::Note) => None,
-        (Turn::AfterNote(_), Kind::Note) => None,
+        (Turn::After(_, Allowed::NoNote), Kind::Note) => None,
     }
 }
 
@@ -54,22 +53,19 @@ impl Turn {
     {
         match self {
             Turn::Start => None,
-            Turn::InTurn(card) => Some(card),
-            Turn::AfterNote(card) => Some(card),
+            Turn::After(card, _) => Some(card),
         }
     }
 
-    // What is in turn after a record more.
-    pub fn after(self, passed: Passed) -> Turn
-        ensures { result ≡ turn_after self passed }
+    // What is in turn after a record of this kind more. The card stays where it is.
+    pub fn pass(&mut self, kind: Kind)
+        ensures { self.new ≡ turn_after self.old kind }
     {
-        match (self, passed) {
-            (_, Passed::Card(card)) => Turn::InTurn(card),
-            (Turn::AfterNote(card), Passed::Cells) => Turn::InTurn(card),
-            (Turn::InTurn(card), Passed::Note) => Turn::AfterNote(card),
-            (Turn::Start, Passed::Cells | Passed::Note) => Turn::Start,
-            (Turn::InTurn(card), Passed::Cells) => Turn::InTurn(card),
-            (Turn::AfterNote(card), Passed::Note) => Turn::AfterNote(card),
+        match (self, kind) {
+            (Turn::Start, _) => {}
+            (Turn::After(_, allowed), Kind::Card) => *allowed = Allowed::EveryKind,
+            (Turn::After(_, allowed), Kind::Cells) => *allowed = Allowed::EveryKind,
+            (Turn::After(_, allowed), Kind::Note) => *allowed = Allowed::NoNote,
         }
     }
 }

@@ -1,10 +1,8 @@
 use Rattle.std.proofs.Common.{ℕ, List, drop, sym, refl, ap, ◌∙◌, subst, inl, inr, arith}
 use Rattle.std.proofs.lemmas.List.{drop_all, length-drop}
 use Rattle.std.specs.Borrow.{Bor}
-use Rattle.tray_file.specs.reader.Entries.{Entry, entry, entry_of, part_of, body_place, VeryPart}
+use Rattle.tray_file.specs.reader.Entries.{Entry, entry, part_of, body_place, VeryPart}
 use Rattle.tray_file.specs.reader.Records.{RecordIn, KeptCells}
-use Rattle.tray_file.specs.reader.Turns.{turn_after}
-use Rattle.tray_file.specs.declared.reader.turn.Turn.{Turn}
 use Rattle.tray_file.proofs.reader_lemmas.Answers.{answers_end}
 use Rattle.tray_file.proofs.reader_lemmas.Runs.{every_run}
 use Rattle.tray_file.proofs.reader_lemmas.OneRecord.{record_reads_back}
@@ -38,16 +36,13 @@ returns-in-Ok c =
     let same = c.record_of.ensures.entry ∙ ap (entry step.kind) c.part-body.ensures.bytes in
     let file = reader.file in
     let here = c.in-Ok.ensures in
-    let turn = c.after-self.ensures ∙ ap (λ (t : Turn). turn_after t step.passed) c.replace.ensures.value in
     record {
       step = record {
         no_fault = c.in_default.is;
-        here = subst (λ (t : Turn). RecordIn reader.turn reader.place (drop reader.place file.now) (entry_of c.record_of.result) step.end t) (sym turn)
-            (subst (λ (e : Entry). RecordIn reader.turn reader.place (drop reader.place file.now) e step.end (turn_after reader.turn step.passed)) (sym same) here.here);
+        here = subst (λ (e : Entry). RecordIn reader.turn reader.place (drop reader.place file.now) e step.end c.read_record.new.turn) (sym same) here.here;
         very = subst (λ (e : Entry). VeryPart file (part_of c.record_of.result) (body_place reader.place e)) (sym same)
             (subst (VeryPart file (part_of c.record_of.result)) here.place_is (subst (λ (p : Bor (List ℕ)). VeryPart file p step.body) (sym c.record_of.ensures.part) c.part-body.ensures.very));
-        cells = subst (λ (t : Turn). KeptCells (entry_of c.record_of.result).kind t (entry_of c.record_of.result).body reader.cells.items c.read_record.new.cells.items) (sym turn)
-            (subst (λ (e : Entry). KeptCells e.kind (turn_after reader.turn step.passed) e.body reader.cells.items c.read_record.new.cells.items) (sym same) here.cells);
+        cells = subst (λ (e : Entry). KeptCells e.kind c.read_record.new.turn e.body reader.cells.items c.read_record.new.cells.items) (sym same) here.cells;
         still_none = c.in_default.is;
         same_file = refl;
       };
@@ -67,8 +62,8 @@ returns-in-Err c =
         kept = refl;
         same_file = refl;
         same_place = refl;
-        same_turn = refl;
-        same_cells = c.in-Err.ensures.1;
+        same_turn = c.in-Err.ensures.1;
+        same_cells = c.in-Err.ensures.2;
       };
       runs = every_run;
       ends = answers_end;
