@@ -1,5 +1,5 @@
 -- A file that has records and an end has a text.
-use Rattle.std.proofs.Common.{◌≡◌, ℕ, ◌+◌, List, [], ◌∷◌, ◌++◌, length, drop, replicate, Some, None, Ok, Err, Option, Result, refl, ap, subst, ⊎_elim, inl, inr}
+use Rattle.std.proofs.Common.{◌≡◌, ℕ, ◌+◌, List, [], ◌∷◌, ◌++◌, length, drop, replicate, Some, None, Ok, Err, Option, Result, refl, ap, subst, inl, inr}
 use lib.ListN.{length-replicate}
 use Rattle.codes.specs.AnyCards.{any_arithmetic, any_code}
 use Rattle.codes.specs.Cards.{card_code}
@@ -23,10 +23,10 @@ use Rattle.tray_file.specs.declared.fault.Fault.{Fault}
 use Rattle.tray_file.specs.declared.reader.kind.Kind.{Kind}
 use Rattle.tray_file.specs.declared.reader.kind.Kind.TheVariants as kind
 use Rattle.tray_file.specs.declared.reader.turn.Turn.{Turn}
-use Rattle.tray_file.specs.declared.reader.turn.Turn.TheVariants.{Start, InTurn, AfterNote}
+use Rattle.tray_file.specs.declared.reader.turn.Turn.TheVariants.{Start, After}
 use Rattle.tray_report.specs.WordReading.{CellsFit}
 use Rattle.tray_report.specs.FileLines.{CellsTold, counts_with}
-use Rattle.tray_report.specs.FileText.{RecordText, RecordsText, FileText, FilesHaveText, step_text}
+use Rattle.tray_report.specs.FileText.{RecordText, RecordsText, FilesHaveText, step_text}
 use Rattle.tray_report.specs.declared.line.EndLine.{EndLine}
 use Rattle.tray_report.specs.declared.file_lines.Step.{Step}
 use Rattle.tray_report.specs.declared.file_lines.Step.TheVariants as step
@@ -83,10 +83,8 @@ record_text kind.Note place body turn next counts Later later done =
     let rest = later counts in
     (rest.0, subst (λ (c : Option AnyCard). Later c counts rest.0) (note_keeps turn next body done) rest.1)
 record_text kind.Cells place body Start next counts Later later done = absurd done
-record_text kind.Cells place body (InTurn card) next counts Later later done =
-    cells_text place body (InTurn card) next counts Later later card done.0.0 refl (cells_keep (InTurn card) next body done) done.0.1
-record_text kind.Cells place body (AfterNote card) next counts Later later done =
-    cells_text place body (AfterNote card) next counts Later later card done.0.0 refl (cells_keep (AfterNote card) next body done) done.0.1
+record_text kind.Cells place body (After card allowed) next counts Later later done =
+    cells_text place body (After card allowed) next counts Later later card done.0.0 refl (cells_keep (After card allowed) next body done) done.0.1
 
 records_text : (es : List Entry) (turn : Turn) (place : ℕ) (bytes : List ℕ) (ending : Option Fault) → FileFrom turn place bytes es ending → (counts : EndLine) →
     (text : List ℕ) × RecordsText (last_card turn) counts place es ending text

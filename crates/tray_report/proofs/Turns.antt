@@ -9,7 +9,8 @@ use Rattle.tray_file.specs.reader.Records.{Done, KeptCells}
 use Rattle.tray_file.specs.reader.Turns.{last_card}
 use Rattle.tray_file.specs.declared.reader.kind.Kind.TheVariants as kind
 use Rattle.tray_file.specs.declared.reader.turn.Turn.{Turn}
-use Rattle.tray_file.specs.declared.reader.turn.Turn.TheVariants.{Start, InTurn, AfterNote}
+use Rattle.tray_file.specs.declared.reader.turn.Turn.TheVariants.{Start, After}
+use Rattle.tray_file.specs.declared.reader.turn.Allowed.TheVariants.{EveryKind, NoNote}
 use Rattle.tray_file.specs.reader.Entries.{entry_of, entry_bytes}
 use Rattle.tray_file.specs.reader.Readers.{left_of, Next}
 use Rattle.tray_file.specs.declared.fault.Fault.{Fault}
@@ -27,26 +28,24 @@ use Rattle.codes.specs.AnyCards.{any_code}
 -- cells and a note leave the last card
 pub cells_keep : (turn next : Turn) (body : List ℕ) → Done kind.Cells turn body next → last_card next ≡ last_card turn
 cells_keep Start next body done = absurd done
-cells_keep (InTurn card) next body done = ap last_card done.1
-cells_keep (AfterNote card) next body done = ap last_card done.1
+cells_keep (After card allowed) next body done = ap last_card done.1
 
 pub note_keeps : (turn next : Turn) (body : List ℕ) → Done kind.Note turn body next → last_card next ≡ last_card turn
 note_keeps Start next body done = absurd done
-note_keeps (InTurn card) next body done = ap last_card done.1
-note_keeps (AfterNote card) next body done = absurd done
+note_keeps (After card EveryKind) next body done = ap last_card done.1
+note_keeps (After card NoNote) next body done = absurd done
 
 -- the cells that are kept are those of the body under the last card
 pub kept_under : (next : Turn) (body : List ℕ) (before after : List Cell) (card : AnyCard) → KeptCells kind.Cells next body before after → last_card next ≡ Some card →
     CellsUnder card body after
 kept_under Start body before after card kept last = absurd kept
-kept_under (InTurn other) body before after card kept last = subst (λ (c : AnyCard). CellsUnder c body after) (same_Some other card last) kept
-kept_under (AfterNote other) body before after card kept last = absurd kept
+kept_under (After other EveryKind) body before after card kept last = subst (λ (c : AnyCard). CellsUnder c body after) (same_Some other card last) kept
+kept_under (After other NoNote) body before after card kept last = absurd kept
 
 -- after cells there is a last card, and they fit it
 pub some_card : (turn next : Turn) (body : List ℕ) → Done kind.Cells turn body next → (card : AnyCard) × (last_card next ≡ Some card)
 some_card Start next body done = absurd done
-some_card (InTurn card) next body done = (card, ap last_card done.1)
-some_card (AfterNote card) next body done = (card, ap last_card done.1)
+some_card (After card allowed) next body done = (card, ap last_card done.1)
 
 pub cells_fit : (card : AnyCard) (body : List ℕ) (cells : List Cell) → CellsUnder card body cells → CellsFit (any_code card) cells
 cells_fit card body cells is = record { count = is.count; lettered = is.lettered }
