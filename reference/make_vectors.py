@@ -419,6 +419,15 @@ def refusals():
     case("refusal 19", "no refusal has this number")
 
 
+def white_space():
+    """Numbers may stand apart by any white space; among marks it is a bad mark."""
+    case("arithmetic 1 7\t3 5", "1 5 1")
+    case("inverses 1\u00a05\t", "inverses - 1 3 2 4 -")
+    line_case(37, 3, "0\t1")
+    line_case(37, 4, "0\t\t1")
+    case("line  37\t 1;0", "line 0")
+
+
 def refusals_by_type():
     """What the program writes after the answers: the type, the number and the word of each case."""
     lines = ["refusals, case by case:"]
@@ -441,6 +450,7 @@ def main():
     lines(rng)
     eight_letters()
     refusals()
+    white_space()
     (FOLDER / "stdin").write_text("\n".join(cases) + "\n", encoding="utf-8")
     proved = ["proved: [5, 4, 0, 5] [0]"]
     (FOLDER / "stdout").write_text("\n".join(proved + answers + refusals_by_type()) + "\n", encoding="utf-8")

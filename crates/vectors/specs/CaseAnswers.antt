@@ -1,6 +1,7 @@
 -- The text that answers a line of standard input, by its word.
-use Rattle.std.specs.Prelude.{◌≡◌, ◌≢◌, ◌⊎◌, ◌==◌, ℕ, Bool, List, [], ◌∷◌, Ok, Err, Result, codes}
+use Rattle.std.specs.Prelude.{◌≡◌, ◌≢◌, ◌⊎◌, ℕ, Bool, List, [], ◌∷◌, Ok, Err, Result, codes, Decides}
 use Rattle.std.specs.List.{before_first, after_first}
+use Rattle.std.specs.Str.{chars}
 use Rattle.algebra.specs.Meaning.{Meaning}
 use Rattle.fields.specs.Causes.{field_number}
 use Rattle.fields.specs.Kinds.{prime_kind, binary_kind}
@@ -16,10 +17,8 @@ use Rattle.tray_file.specs.declared.fault.field_fault.FieldFault.TheVariants.{No
 use Rattle.vectors.specs.Answers.{RefusedText, RefusalShown, taken_text, ArithmeticText, inverses_text, products_text, AdmitsText, SumsAnswered, RealiseAnswered, CardAnswered, EncodeAnswered}
 use Rattle.vectors.specs.ReadAnswers.{ReadAnswered}
 use Rattle.vectors.specs.LineAnswers.{LineAnswered}
-use Rattle.vectors.specs.Parts.{semicolon, numbers_in}
-
-abbrev pub space : ℕ → Bool
-space b = b == 32
+use Rattle.vectors.specs.Parts.{semicolon, space, numbers_in}
+use Rattle.vectors.specs.Spaced.{PlainSpaces, spaced_text}
 
 -- what is answered over a field, by the word
 abbrev pub FieldCaseAnswered : Meaning → List ℕ → List ℕ → List ℕ → List ℕ → Type 0
@@ -75,3 +74,11 @@ WordAnswered word argument text =
 -- a case is a word, a space and its argument
 abbrev pub Answered : List ℕ → List ℕ → Type 0
 Answered line text = WordAnswered (before_first space line) (after_first space line) text
+
+-- A line that has no white space but spaces may be answered as it stands. Any line is answered with
+-- its white space made single spaces, where that of marks counts.
+abbrev pub LineAnswer : List ℕ → List ℕ → Type 0
+LineAnswer line text =
+    (PlainSpaces (chars line) × Answered line text)
+    ⊎ ((marks : Bool) × Decides marks (before_first space line ≡ codes "line")
+    × Answered (spaced_text marks (chars line)) text)

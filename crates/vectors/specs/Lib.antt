@@ -2,6 +2,7 @@ pub mod WorkedSums
 pub mod Degrees
 pub mod Fold
 pub mod Parts
+pub mod Spaced
 pub mod Answers
 pub mod InverseText
 pub mod ReadAnswers

@@ -10,6 +10,9 @@ use Rattle.std.specs.Str.Parse.{digits_value, without_leading_plus}
 abbrev pub semicolon : ℕ → Bool
 semicolon b = b == 59
 
+abbrev pub space : ℕ → Bool
+space b = b == 32
+
 -- the part of a text at place i, between semicolons; empty where there are fewer
 unfoldable pub part : ℕ → List ℕ → List ℕ
 part zero text = before_first semicolon text

@@ -2,6 +2,9 @@
 // of code written apart.
 #![tactic(auto)]
 
+ghost use Rattle.std.specs.Prelude.{IfOk, string_bytes};
+ghost use Rattle.vectors.specs.CaseAnswers.{LineAnswer};
+
 mod cases;
 mod code_case;
 mod fold;
@@ -9,14 +12,29 @@ mod inverse;
 mod number_lists;
 mod parts;
 mod refusals;
+mod spaced;
 mod word_cases;
 mod words;
 mod worked;
 
 use cases::answer;
+use spaced::{is_of_marks, is_plain, spaced};
+use std::alloc::Global;
 use std::io::{BufWriter, Write};
 use words::write_words;
 use worked::{sum_of_book_number, sums_of_six};
+
+// The answer to a line, in which numbers may stand apart by any white space. A line that has single
+// spaces alone is not copied.
+fn answer_line(heap: Global, line: &str) -> anyhow::Result<String>
+    ensures { IfOk result (λ text. LineAnswer line.now (string_bytes text)) }
+{
+    if is_plain(line) {
+        return answer(heap, line);
+    }
+    let case = spaced(heap, line, is_of_marks(line))?;
+    answer(heap, case.as_str())
+}
 
 fn run(rt: &HostRuntime) -> anyhow::Result<()> {
     let heap = rt.alloc();
@@ -26,7 +44,7 @@ fn run(rt: &HostRuntime) -> anyhow::Result<()> {
     writeln!(out, "proved: {six:?} {book:?}")?;
     for line in rt.lines(heap) {
         let line = line?;
-        let text = answer(heap, line.as_str())?;
+        let text = answer_line(heap, line.as_str())?;
         writeln!(out, "{text}")?;
     }
     writeln!(out, "refusals, case by case:")?;
