@@ -1,5 +1,5 @@
 // A list of at most `N` numbers.
-ghost use Rattle.std.specs.Prelude.{◌≡◌, ◌<◌, ◌≤◌, [], ◌∷◌, ◌++◌, length};
+ghost use Rattle.std.specs.Prelude.{◌≡◌, ◌<◌, ◌≤◌, [], ◌∷◌, ◌++◌, length, replicate, slice_set};
 
 use std::marker::Model;
 
@@ -39,6 +39,17 @@ impl<const N: usize> ShortList<N> {
         }
     }
 
+    /// The list of so many zeros, at most `N`.
+    pub fn zeros(len: usize) -> Self
+        requires { len ≤ N }
+        ensures { result ≡ replicate len 0 }
+    {
+        ShortList {
+            len,
+            places: [0; N],
+        }
+    }
+
     /// How many numbers the list holds.
     pub fn len(&self) -> usize
         ensures value { result ≡ length self.now }
@@ -54,6 +65,15 @@ impl<const N: usize> ShortList<N> {
     {
         self.places[self.len] = number;
         self.len += 1;
+    }
+
+    /// Puts a number in the place of the one at `index`, which the list has. A loop that knows
+    /// beforehand how many numbers it puts takes less time so: `push` writes the length each time.
+    pub fn set(&mut self, index: usize, number: u32)
+        requires { index < length self.old }
+        ensures { self.new ≡ slice_set self.old index number }
+    {
+        self.places[..self.len][index] = number;
     }
 
     /// The numbers that the list holds, without the zeros after them.

@@ -51,7 +51,7 @@ body_never kinds.Note Start body next fault done refused = done
 body_never kinds.Note (After card EveryKind) body next fault done refused = refused.1 done.0
 body_never kinds.Note (After card NoNote) body next fault done refused = done
 
-kind_small : (kind : Kind) → kind_number kind ≤ largest_number
+pub kind_small : (kind : Kind) → kind_number kind ≤ largest_number
 kind_small kinds.Card = lit≤ tt
 kind_small kinds.Cells = lit≤ tt
 kind_small kinds.Note = lit≤ tt

@@ -1,5 +1,6 @@
 // Reads cells from a record's body: 0 for a blank, and letter + 1 otherwise.
-ghost use Rattle.std.specs.Prelude.{◌≡◌, length, Decides};
+ghost use Rattle.std.specs.Prelude.{◌≡◌, ◌≤◌, length, Decides};
+ghost use Rattle.algebra.specs.Limits.{largest_cells};
 ghost use Rattle.codes.specs.Cards.{card_code};
 ghost use Rattle.tray_file.specs.body.CellBodies.{UpTo, cell_of_number, cells_of, CellNumbersRead, CellsListed, CellsReadInto};
 ghost use Rattle.tray_file.specs.body.OneReading.{CellsReadBack, OneCellsAnswer};
@@ -23,12 +24,14 @@ pub(crate) type CellList = ArrayVec<Cell, LARGEST_CELLS>;
 pub(crate) fn list_cells(card: &AnyCard, body: &[u8], cells: &mut CellList) -> Result<(), BodyFault>
     ensures { CellsListed card.now body.now cells.old.items cells.new.items result }
 {
-    let numbers = cell_numbers(shape_of_any(card), body)?;
-    cells.clear();
-    for number in numbers.as_slice() {
-        cells.push(cell_of(*number));
+    // A `?` would move the numbers once more.
+    match cell_numbers(shape_of_any(card), body) {
+        Ok(numbers) => {
+            set_cells(numbers.as_slice(), cells);
+            Ok(())
+        }
+        Err(fault) => Err(fault),
     }
-    Ok(())
 }
 
 /// Writes the cells of a body under its card into a buffer of n cells. Refused with 25 where the
@@ -82,6 +85,22 @@ fn write_cells(numbers: &[u32], cells: &mut [Cell])
     // place.
     for (j, cell) in cells.iter_mut().enumerate() {
         *cell = cell_of(numbers[j]);
+    }
+}
+
+// Puts the cells of the numbers into the list, in place of those before. A list that is as long is
+// written over, which takes less time than to push each cell.
+fn set_cells(numbers: &[u32], cells: &mut CellList)
+    requires { length numbers.now ≤ largest_cells }
+    ensures { cells.new.items ≡ cells_of numbers.now }
+{
+    if cells.len() == numbers.len() {
+        write_cells(numbers, cells.as_mut_slice());
+        return;
+    }
+    cells.clear();
+    for number in numbers {
+        cells.push(cell_of(*number));
     }
 }
 

@@ -29,11 +29,11 @@ impl<'a> ListAt<'a> {
         ensures { ListRead (drop self.entry.start self.entry.body.now) self.entry.start
             self.entry.count result }
     {
-        let mut values = ShortList::new();
+        let mut values = ShortList::zeros(self.count);
         let mut place = self.start;
-        for _ in 0..self.count {
+        for j in 0..self.count {
             let read = number_in(self.body, place)?;
-            values.push(read.value);
+            values.set(j, read.value);
             place = read.end;
         }
         Ok(NumberList { values, end: place })

@@ -20,8 +20,8 @@ pub(crate) struct Step {
 }
 
 // A card that was read is put into `turn`, in place of the one before, and the cells of a cells
-// record into `cells`. A function with a card among its locals clears room for it at each call, so a
-// card is read in one of its own.
+// record into `cells`. A function with a card among its locals clears room for it at each call, so
+// a card is read in one of its own.
 pub(crate) fn read_record(
     file: &[u8],
     place: usize,

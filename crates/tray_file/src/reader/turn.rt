@@ -10,8 +10,8 @@ use codes::AnyCard;
 pub(crate) enum Turn {
     // Nothing was read: only a card is in turn.
     Start,
-    // The card, and what is in turn after the last record. They stand apart, so that cells and notes
-    // leave the card where it is.
+    // The card, and what is in turn after the last record. They stand apart, so that cells and
+    // notes leave the card where it is.
     After(AnyCard, Allowed),
 }
 
